@@ -1,0 +1,4 @@
+pub mod Net
+pub mod Sum
+pub mod Key
+pub mod Flow
