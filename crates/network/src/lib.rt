@@ -5,6 +5,7 @@ ghost use Rattle.std.specs.Options.{mapped};
 ghost use Rattle.network.specs.Net.{Net, Limits, size, told};
 
 pub mod legend;
+pub mod line_record;
 pub mod role;
 
 pub trait Network {
