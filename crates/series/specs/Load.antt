@@ -2,11 +2,13 @@
 use Prim.Native.Nat.{ℕ, _^_, _<_, _≤_}
 use mathlib.Core.Path.{_≡_}
 use mathlib.Core.Bool.{cond}
-use mathlib.Core.List.{List, [], _∷_, map}
+use mathlib.Core.List.{List, map}
 use mathlib.Core.Logic.{_⊎_}
 use lib.Dec.{eqb}
 use lib.ListN.{length, getD, take}
 use Rattle.std.specs.Results.{Cases}
+use Rattle.std.specs.declared.option.Option.{Option}
+use Rattle.std.specs.declared.option.Option.the-variants.{Some, None}
 use Rattle.std.specs.declared.result.Result.{Result}
 use Rattle.series.specs.Job.{Job, jobOf}
 use Rattle.series.specs.Sound.{noSign, SoundSign, SoundSigns}
@@ -18,20 +20,13 @@ use Rattle.series.specs.declared.records.PartRecord.{PartRecord}
 use Rattle.series.specs.declared.records.SignRecord.{SignRecord}
 use Rattle.series.specs.declared.records.Standing as standing
 
--- The number of each refusal, and the place that it tells: a part or a sign.
-abbrev pub numberOf : LoadRefusal → ℕ
-numberOf Short = 1
-numberOf TooMany = 2
-numberOf (Sign s) = 3
-numberOf (Mask p) = 4
-numberOf (Standing p) = 5
-
-abbrev pub placeOf : LoadRefusal → List ℕ
-placeOf Short = []
-placeOf TooMany = []
-placeOf (Sign s) = s ∷ []
-placeOf (Mask p) = p ∷ []
-placeOf (Standing p) = p ∷ []
+-- The number of each refusal, and the place of the part or the sign that it tells.
+abbrev pub loadTold : LoadRefusal → ℕ × Option ℕ
+loadTold Short = (1, None)
+loadTold TooMany = (2, None)
+loadTold (Sign s) = (3, Some s)
+loadTold (Mask p) = (4, Some p)
+loadTold (Standing p) = (5, Some p)
 
 -- the standing that a byte of a record names: 0, 1 or 2
 abbrev pub standingOf : ℕ → standing.Standing

@@ -2,10 +2,12 @@
 use Prim.Native.Nat.{ℕ, _<_, _≤_}
 use mathlib.Core.Path.{_≡_}
 use mathlib.Core.Bool.{Bool, true, not}
-use mathlib.Core.List.{List, [], _∷_}
+use mathlib.Core.List.{List}
 use mathlib.Core.Logic.{_⊎_}
 use lib.Dec.{eqb}
 use lib.ListN.{length, getD, take}
+use Rattle.std.specs.declared.option.Option.{Option}
+use Rattle.std.specs.declared.option.Option.the-variants.{Some, None}
 use Rattle.std.specs.declared.result.Result.{Result}
 use Rattle.std.specs.declared.result.Result.the-variants.{Ok, Err}
 use Rattle.network.specs.Sum.{countUpto}
@@ -71,18 +73,12 @@ pub record LawfulNumbering (job : Job) (lo hi : ℕ) (bytes : List ℕ) : Type 0
   pub signs : SignsKept job bytes (signCount job)
   pub total : TotalRule lo hi (signed bytes)
 
--- The number of each refusal, and what it tells: a part, a sign, or the total.
-abbrev pub judgeNumber : JudgeRefusal → ℕ
-judgeNumber Short = 1
-judgeNumber (Part p) = 21
-judgeNumber (Sign s) = 22
-judgeNumber (Total t) = 23
-
-abbrev pub judgeValue : JudgeRefusal → List ℕ
-judgeValue Short = []
-judgeValue (Part p) = p ∷ []
-judgeValue (Sign s) = s ∷ []
-judgeValue (Total t) = t ∷ []
+-- The number of each refusal, and what it tells: the place of a part or a sign, or the total.
+abbrev pub judgeTold : JudgeRefusal → ℕ × Option ℕ
+judgeTold Short = (1, None)
+judgeTold (Part p) = (21, Some p)
+judgeTold (Sign s) = (22, Some s)
+judgeTold (Total t) = (23, Some t)
 
 -- the part at p is the first whose rule is broken, and so for signs
 abbrev pub FirstPart : Job → List ℕ → ℕ → Type 0

@@ -5,7 +5,7 @@ ghost use lib.ListN.{length};
 ghost use Rattle.std.specs.Orderings.{Decides};
 ghost use Rattle.std.specs.Options.{Cases as BySome};
 ghost use Rattle.series.specs.Job.{jobOf, partCount, signCount, partAt};
-ghost use Rattle.series.specs.Numbering.{judgeNumber, PlaceKnown, StandingKept, InMask, PartRule, SignRule, TotalRule, PartsKept, SignsKept, FirstPart, FirstSign, Verdict, Judged};
+ghost use Rattle.series.specs.Numbering.{judgeTold, PlaceKnown, StandingKept, InMask, PartRule, SignRule, TotalRule, PartsKept, SignsKept, FirstPart, FirstSign, Verdict, Judged};
 ghost use Rattle.series.specs.Numbering.{uses as usesOf, signed as signedOf};
 use crate::lines::allowed;
 use crate::one_series::OneSeries;
@@ -25,13 +25,23 @@ pub enum JudgeRefusal {
 
 impl JudgeRefusal {
     pub fn number(self) -> u8
-        ensures { λ r. ⌜ r ≡ judgeNumber self ⌝ }
+        ensures { λ r. ⌜ r ≡ judgeTold self .0 ⌝ }
     {
         match self {
             JudgeRefusal::Short => 1,
             JudgeRefusal::Part(_) => 21,
             JudgeRefusal::Sign(_) => 22,
             JudgeRefusal::Total(_) => 23,
+        }
+    }
+
+    // The part, the sign or the total that is told.
+    pub fn value(self) -> Option<usize>
+        ensures { λ r. ⌜ r ≡ judgeTold self .1 ⌝ }
+    {
+        match self {
+            JudgeRefusal::Short => None,
+            JudgeRefusal::Part(value) | JudgeRefusal::Sign(value) | JudgeRefusal::Total(value) => Some(value),
         }
     }
 }

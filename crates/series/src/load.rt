@@ -5,7 +5,7 @@ ghost use Prim.Native.Nat.{ℕ, _+_, _^_, _<_, _≤_};
 ghost use lib.Dec.{leb};
 ghost use lib.ListN.{length, take};
 ghost use Rattle.std.specs.Results.{Cases};
-ghost use Rattle.series.specs.Load.{numberOf, partOf, standingOf, Sized, SoundParts, SizeFault, PartFault, SignFault, Loading};
+ghost use Rattle.series.specs.Load.{loadTold, partOf, standingOf, Sized, SoundParts, SizeFault, PartFault, SignFault, Loading};
 ghost use Rattle.series.specs.Sound.{SoundSigns};
 use crate::one_series::OneSeries;
 use crate::records::Part;
@@ -25,7 +25,7 @@ pub enum LoadRefusal {
 
 impl LoadRefusal {
     pub fn number(self) -> u8
-        ensures { λ r. ⌜ r ≡ numberOf self ⌝ }
+        ensures { λ r. ⌜ r ≡ loadTold self .0 ⌝ }
     {
         match self {
             LoadRefusal::Short => 1,
@@ -33,6 +33,16 @@ impl LoadRefusal {
             LoadRefusal::Sign(_) => 3,
             LoadRefusal::Mask(_) => 4,
             LoadRefusal::Standing(_) => 5,
+        }
+    }
+
+    // The part or the sign that is told.
+    pub fn place(self) -> Option<usize>
+        ensures { λ r. ⌜ r ≡ loadTold self .1 ⌝ }
+    {
+        match self {
+            LoadRefusal::Short | LoadRefusal::TooMany => None,
+            LoadRefusal::Sign(place) | LoadRefusal::Mask(place) | LoadRefusal::Standing(place) => Some(place),
         }
     }
 }
