@@ -24,8 +24,8 @@ module _ (job : Job) (held : Held job) where
   standing-alone : (p j : ℕ) → roleAt job j ≡ Standing p → j ≡ p
   standing-alone p j =
       cond-both (ltb j (pairsFrom job)) _ _ (λ r. r ≡ Standing p → j ≡ p) (λ _ e. cc) (λ _.
-        cond-both (ltb j (signsFrom job)) _ _ (λ r. r ≡ Standing p → j ≡ p) (λ _ e. cc) (λ _.
-          cond-both (ltb j (lineCount job)) _ _ (λ r. r ≡ Standing p → j ≡ p) (λ _ e. cc) (λ _ e. cc)))
+      cond-both (ltb j (signsFrom job)) _ _ (λ r. r ≡ Standing p → j ≡ p) (λ _ e. cc) (λ _.
+      cond-both (ltb j (lineCount job)) _ _ (λ r. r ≡ Standing p → j ≡ p) (λ _ e. cc) (λ _ e. cc)))
 
   part-only : (p : ℕ) → p < partCount job → Only (jobNet job) (keyOf job) (Standing p) p
   part-only p h = record { inside = rw size-is (omega arith); stands = rw (lt-ltb p (pairsFrom job) h); alone = standing-alone p }
@@ -50,8 +50,8 @@ module _ (job : Job) (held : Held job) where
   pair-alone : (p s j : ℕ) → roleAt job j ≡ Pair p s → j ≡ pairPlace job p s
   pair-alone p s j =
       cond-both (ltb j (pairsFrom job)) _ _ (λ r. r ≡ Pair p s → j ≡ pairPlace job p s) (λ _ e. cc) (λ low.
-        cond-both (ltb j (signsFrom job)) _ _ (λ r. r ≡ Pair p s → j ≡ pairPlace job p s) (λ _ e. pair-back p s j (ltb-false _ _ low) e) (λ _.
-          cond-both (ltb j (lineCount job)) _ _ (λ r. r ≡ Pair p s → j ≡ pairPlace job p s) (λ _ e. cc) (λ _ e. cc)))
+      cond-both (ltb j (signsFrom job)) _ _ (λ r. r ≡ Pair p s → j ≡ pairPlace job p s) (λ _ e. pair-back p s j (ltb-false _ _ low) e) (λ _.
+      cond-both (ltb j (lineCount job)) _ _ (λ r. r ≡ Pair p s → j ≡ pairPlace job p s) (λ _ e. cc) (λ _ e. cc)))
 
   pair-only : (p s : ℕ) → p < partCount job → s < signCount job → Only (jobNet job) (keyOf job) (Pair p s) (pairPlace job p s)
   pair-only p s h k = record {

@@ -69,8 +69,8 @@ module _ (job : Job) (h : Held job) where
   line-fits : (k : ℕ) → k < lineCount job → Fit (sinkNode job + 1) (lineAt job k)
   line-fits k l =
       cond-both (ltb k (pairsFrom job)) _ _ (Fit (sinkNode job + 1)) (λ e. standing-fits k (ltb-true _ _ e)) (λ e.
-        cond-both (ltb k (signsFrom job)) _ _ (Fit (sinkNode job + 1)) (λ d. let q = pair-places k (ltb-false _ _ e) (ltb-true _ _ d) in pair-fits _ _ (q .0) (q .1)) (λ d.
-          let u : signsFrom job ≤ k = ltb-false _ _ d in count-fits (k - signsFrom job) (omega arith)))
+      cond-both (ltb k (signsFrom job)) _ _ (Fit (sinkNode job + 1)) (λ d. let q = pair-places k (ltb-false _ _ e) (ltb-true _ _ d) in pair-fits _ _ (q .0) (q .1)) (λ d.
+      let u : signsFrom job ≤ k = ltb-false _ _ d in count-fits (k - signsFrom job) (omega arith)))
 
   few-lines : lineCount job ≤ 16384
   few-lines = omega (arith, mul-le (partCount job) (signCount job) 64 64 (h .parts) (h .signs), h .parts, h .signs)

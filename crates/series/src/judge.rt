@@ -41,7 +41,8 @@ impl JudgeRefusal {
     {
         match self {
             JudgeRefusal::Short => None,
-            JudgeRefusal::Part(value) | JudgeRefusal::Sign(value) | JudgeRefusal::Total(value) => Some(value),
+            JudgeRefusal::Part(value) | JudgeRefusal::Sign(value) | JudgeRefusal::Total(value) =>
+                Some(value),
         }
     }
 }
@@ -101,7 +102,9 @@ impl OneSeries {
         ensures { λ r. ⌜ Decides r (PartRule (jobOf (now (self .entry))) p byte) ⌝ }
     {
         let part = self.part(p);
-        self.place_known(byte) && standing_kept(part.standing, byte) && self.in_mask(part.mask, byte)
+        self.place_known(byte)
+            && standing_kept(part.standing, byte)
+            && self.in_mask(part.mask, byte)
     }
 
     fn first_broken_part(&self, bytes: &[u8]) -> Option<usize>

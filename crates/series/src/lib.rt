@@ -5,3 +5,5 @@ pub mod lines;
 pub mod load;
 pub mod one_series;
 pub mod records;
+#[cfg(test)]
+mod tests;

@@ -5,20 +5,28 @@ ghost use mathlib.Core.Bool.{cond};
 ghost use mathlib.Core.List.{[]};
 ghost use Rattle.series.specs.Job.{jobOf, partCount, signCount, partAt, signAt, allows, fewest, utmost, standingLine, pairLine, countLine, lineAt, jobNet};
 ghost use Rattle.series.specs.Limits.{limits-of};
-use network::Network;
 use crate::one_series::OneSeries;
 use crate::records::Part;
 use crate::records::SignRecord;
 use crate::records::Standing;
+use network::Network;
 
 impl OneSeries {
     // A network without parts and signs: source and sink alone.
     pub fn new() -> OneSeries
         ensures { λ r. ⌜ jobOf r ≡ record { parts = []; signs = [] } ⌝ }
     {
-        let part = Part { mask: 0, standing: Standing::LeftOut };
+        let part = Part {
+            mask: 0,
+            standing: Standing::LeftOut,
+        };
         let sign = SignRecord { least: 0, most: 0 };
-        OneSeries { parts: [part; 64], signs: [sign; 64], n: 0, m: 0 }
+        OneSeries {
+            parts: [part; 64],
+            signs: [sign; 64],
+            n: 0,
+            m: 0,
+        }
     }
 
     pub(crate) fn part(&self, p: usize) -> Part
@@ -49,7 +57,12 @@ impl OneSeries {
         requires { ⌜ p < now self .n ⌝ ∗ ⌜ s < now self .m ⌝ }
         ensures { λ r. ⌜ r ≡ pairLine (jobOf (now (self .entry))) p s ⌝ }
     {
-        (1 + p as u16, (1 + self.n + s) as u16, 0, most_of_pair(self.part(p).mask, s))
+        (
+            1 + p as u16,
+            (1 + self.n + s) as u16,
+            0,
+            most_of_pair(self.part(p).mask, s),
+        )
     }
 
     // The line of a sign: sign to sink, with the sign's bounds.
@@ -58,7 +71,12 @@ impl OneSeries {
         ensures { λ r. ⌜ r ≡ countLine (jobOf (now (self .entry))) s ⌝ }
     {
         let sign = self.sign(s);
-        ((1 + self.n + s) as u16, (1 + self.n + self.m) as u16, sign.least as u16, sign.most as u16)
+        (
+            (1 + self.n + s) as u16,
+            (1 + self.n + self.m) as u16,
+            sign.least as u16,
+            sign.most as u16,
+        )
     }
 
     // The line at a place.

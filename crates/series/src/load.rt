@@ -42,12 +42,18 @@ impl LoadRefusal {
     {
         match self {
             LoadRefusal::Short | LoadRefusal::TooMany => None,
-            LoadRefusal::Sign(place) | LoadRefusal::Mask(place) | LoadRefusal::Standing(place) => Some(place),
+            LoadRefusal::Sign(place) | LoadRefusal::Mask(place) | LoadRefusal::Standing(place) =>
+                Some(place),
         }
     }
 }
 
-fn check_size(n: usize, m: usize, parts: &[PartRecord], signs: &[SignRecord]) -> Result<(), LoadRefusal>
+fn check_size(
+    n: usize,
+    m: usize,
+    parts: &[PartRecord],
+    signs: &[SignRecord],
+) -> Result<(), LoadRefusal>
     ensures { λ r. ⌜ Cases r (λ _. Sized n m (now (parts .entry)) (now (signs .entry))) (SizeFault n m (now (parts .entry)) (now (signs .entry))) ⌝ }
 {
     if parts.len() < n || signs.len() < m {
@@ -110,14 +116,20 @@ fn standing_of(byte: u8) -> PartStanding
 fn part_of(given: PartRecord) -> Part
     ensures { λ r. ⌜ r ≡ partOf given ⌝ }
 {
-    Part { mask: given.mask, standing: standing_of(given.standing) }
+    Part {
+        mask: given.mask,
+        standing: standing_of(given.standing),
+    }
 }
 
 fn kept_parts(n: usize, given: &[PartRecord]) -> [Part; 64]
     requires { ⌜ n ≤ length (now given) ⌝ ∗ ⌜ n ≤ 64 ⌝ }
     ensures { λ r. ⌜ take n r ≡ map partOf (take n (now (given .entry))) ⌝ }
 {
-    let mut slots = [Part { mask: 0, standing: PartStanding::LeftOut }; 64];
+    let mut slots = [Part {
+        mask: 0,
+        standing: PartStanding::LeftOut,
+    }; 64];
     for p in 0..n {
         slots[p] = part_of(given[p]);
     }
@@ -137,7 +149,13 @@ fn kept_signs(m: usize, given: &[SignRecord]) -> [SignRecord; 64]
 
 impl OneSeries {
     // Replaces the job by that of the first n part records and the first m sign records; a refusal keeps the old one.
-    pub fn load(&mut self, n: usize, m: usize, parts: &[PartRecord], signs: &[SignRecord]) -> Result<(), LoadRefusal>
+    pub fn load(
+        &mut self,
+        n: usize,
+        m: usize,
+        parts: &[PartRecord],
+        signs: &[SignRecord],
+    ) -> Result<(), LoadRefusal>
         ensures { λ r. ⌜ Loading n m (now (parts .entry)) (now (signs .entry)) (now (self .entry)) (now (self .exit)) r ⌝ }
     {
         check_size(n, m, parts, signs)?;

@@ -10,6 +10,6 @@ pub loop-byte-again : need.loop-byte-again
 loop-byte-again c =
     let l = c .loop-byte in
     elim (c .if-byte .came) [
-      then-byte w ↦ one-more (c .args .bytes .now) (λ b. not (eqb b unsigned)) (l .byte-index) (l .count) (l .inv) _ (not-from-false _ (ne-eqb _ _ (w .if-byte .taken))) (w .count-is) |
-      else-byte w ↦ none-more (c .args .bytes .now) (λ b. not (eqb b unsigned)) (l .byte-index) (l .count) (l .inv) _ (not-from-true _ (eq-eqb _ _ (w .if-byte .left))) (w .count-is)
+      | then-byte w ↦ one-more (c .args .bytes .now) (λ b. not (eqb b unsigned)) (l .byte-index) (l .count) (l .inv) _ (not-from-false _ (ne-eqb _ _ (w .if-byte .taken))) (w .count-is)
+      | else-byte w ↦ none-more (c .args .bytes .now) (λ b. not (eqb b unsigned)) (l .byte-index) (l .count) (l .inv) _ (not-from-true _ (eq-eqb _ _ (w .if-byte .left))) (w .count-is)
     ]

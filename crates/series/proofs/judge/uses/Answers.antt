@@ -9,6 +9,6 @@ pub loop-byte-again : need.loop-byte-again
 loop-byte-again c =
     let l = c .loop-byte in
     elim (c .if-from-sign .came) [
-      then-from-sign w ↦ one-more (c .args .bytes .now) (λ b. eqb b (c .args .sign)) (l .byte-index) (l .count) (l .inv) _ (eq-eqb _ _ (search needs)) (w .count-is) |
-      else-from-sign w ↦ none-more (c .args .bytes .now) (λ b. eqb b (c .args .sign)) (l .byte-index) (l .count) (l .inv) _ (ne-eqb _ _ (search needs)) (w .count-is)
+      | then-from-sign w ↦ one-more (c .args .bytes .now) (λ b. eqb b (c .args .sign)) (l .byte-index) (l .count) (l .inv) _ (eq-eqb _ _ (search needs)) (w .count-is)
+      | else-from-sign w ↦ none-more (c .args .bytes .now) (λ b. eqb b (c .args .sign)) (l .byte-index) (l .count) (l .inv) _ (ne-eqb _ _ (search needs)) (w .count-is)
     ]
