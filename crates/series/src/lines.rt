@@ -79,6 +79,13 @@ impl OneSeries {
         )
     }
 
+    // One line for each part, for each pair and for each sign.
+    fn line_count(&self) -> usize
+        ensures { λ r. ⌜ r ≡ now (self .entry) .n + now (self .entry) .n * now (self .entry) .m + now (self .entry) .m ⌝ }
+    {
+        self.n + self.n * self.m + self.m
+    }
+
     // The line at a place.
     fn line_at(&self, place: usize) -> (u16, u16, u16, u16)
         requires { ⌜ place < now self .n + now self .n * now self .m + now self .m ⌝ }
@@ -106,11 +113,11 @@ pub impl Network for OneSeries as OneSeriesNetwork {
     }
 
     fn lines(&self) -> usize {
-        self.n + self.n * self.m + self.m
+        self.line_count()
     }
 
     fn line(&self, place: usize) -> Option<(u16, u16, u16, u16)> {
-        if place < self.lines() {
+        if place < self.line_count() {
             Some(self.line_at(place))
         } else {
             None

@@ -1,25 +1,19 @@
 use Prim.Native.Nat.{_≤_, _<_}
-use mathlib.Core.Path.{_≡_, sym, ap, _∙_}
+use mathlib.Core.Path.{sym, ap, _∙_}
 use native.Mathlib.Omega.{arith}
 use Rattle.std.specs.declared.option.Option.the-variants.{Some}
 use Rattle.series.specs.Job.{jobOf, lineCount}
-use Rattle.series.proofs.Counts.{line-count, size-is, line-inside, line-beyond}
+use Rattle.series.proofs.Counts.{line-count, line-inside, line-beyond}
 use Rattle.series.proofs.lines.OneSeriesNetwork.line.Needs as need
 
-pub line-at-requires : need.line-at-requires
-line-at-requires c κs =
+pub returns-then-place-line-count : need.returns-then-place-line-count
+returns-then-place-line-count c =
     let x = c .args .self .now in
-    let few = line-count x in
-    omega (arith, few, size-is (jobOf x), c .lines .ensures, c .if-place-lines .taken)
+    let inside : c .args .place < lineCount (jobOf x) = omega (arith, line-count x, c .line-count .ensures, c .if-place-line-count .taken) in
+    ap Some (c .line-at .ensures) ∙ sym (line-inside (jobOf x) (c .args .place) inside)
 
-pub returns-then-place-lines : need.returns-then-place-lines
-returns-then-place-lines c =
-    let job = jobOf (c .args .self .now) in
-    let inside : c .args .place < lineCount job = omega (arith, size-is job, c .lines .ensures, c .if-place-lines .taken) in
-    ap Some (c .line-at .ensures) ∙ sym (line-inside job (c .args .place) inside)
-
-pub returns-else-place-lines : need.returns-else-place-lines
-returns-else-place-lines c =
-    let job = jobOf (c .args .self .now) in
-    let beyond : lineCount job ≤ c .args .place = omega (arith, size-is job, c .lines .ensures, c .if-place-lines .left) in
-    sym (line-beyond job (c .args .place) beyond)
+pub returns-else-place-line-count : need.returns-else-place-line-count
+returns-else-place-line-count c =
+    let x = c .args .self .now in
+    let beyond : lineCount (jobOf x) ≤ c .args .place = omega (arith, line-count x, c .line-count .ensures, c .if-place-line-count .left) in
+    sym (line-beyond (jobOf x) (c .args .place) beyond)

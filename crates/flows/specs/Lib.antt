@@ -1,0 +1,4 @@
+pub mod Bounds
+pub mod Steps
+pub mod Trails
+pub mod Theorems
