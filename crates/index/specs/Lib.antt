@@ -1,0 +1,3 @@
+pub mod Copy
+pub mod Rows
+pub mod Steps
