@@ -1,0 +1,12 @@
+use mathlib.Core.Path.{ap}
+use native.Mathlib.Omega.{arith}
+use Rattle.std.proofs.shelf.Ways.{tells}
+use Rattle.network.specs.Net.{least, most}
+use Rattle.index.proofs.Lines.{line-is}
+use Rattle.verdicts.proofs.search.is_passable.Needs as need
+
+pub returns-then-step-eq0 : need.returns-then-step-eq0
+returns-then-step-eq0 c = let e = ap most (line-is 0 (c .args .lines .now) (c .args .step .line)) in grind (arith, tells)
+
+pub returns-else-step-eq0 : need.returns-else-step-eq0
+returns-else-step-eq0 c = let e = ap least (line-is 0 (c .args .lines .now) (c .args .step .line)) in grind (arith, tells)
