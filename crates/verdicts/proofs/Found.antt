@@ -1,5 +1,5 @@
 -- A node is found: it is marked, and listed unless it was marked before.
-use Prim.Native.Nat.{ℕ, _+_, _<_, _≤_}
+use Prim.Native.Nat.{ℕ, _+_, _<_}
 use mathlib.Core.Path.{_≡_, refl, sym, _∙_, ap, subst}
 use mathlib.Core.Bool.{Bool, true, false, cond, _||_}
 use mathlib.Core.List.{List}
@@ -13,7 +13,7 @@ use Rattle.std.proofs.shelf.Tests.{and-parts, or-cases, or-left, or-right, eq-e
 use Rattle.std.proofs.shelf.Ways.{tells}
 use Rattle.buffers.specs.Marks.{marked, blank, blanks}
 use Rattle.buffers.proofs.Blanks.{marked-mark}
-use Rattle.verdicts.specs.Search.{Found, Listed, Adds, Waits, reached, nodeAt}
+use Rattle.verdicts.specs.Search.{Found, Listed, Adds, reached}
 
 abbrev foundOf : ℕ → List ℕ → List ℕ → ℕ → Found
 foundOf nodes bytes cells len = record { nodes = nodes; bytes = bytes; cells = cells; len = len }

@@ -1,20 +1,19 @@
 -- What the index tells of the steps that leave a node, and what a step that a search may take is to the theory of flows.
-use Prim.Native.Nat.{ℕ, zero, suc, _+_, _-_, _*_, _<_, _≤_}
-use mathlib.Core.Path.{_≡_, refl, sym, _∙_, ap, subst}
+use Prim.Native.Nat.{ℕ, _+_, _<_, _≤_}
+use mathlib.Core.Path.{_≡_, sym, _∙_}
 use mathlib.Core.Bool.{Bool, true, false, not, cond}
 use mathlib.Core.List.{List}
-use native.Mathlib.Nat.{add-suc}
 use native.Mathlib.Omega.{arith}
 use lib.Dec.{eqb, ltb}
 use lib.ListN.{length}
 use Rattle.std.proofs.shelf.Tests.{and-parts, both-ways, cond-true, cond-false, eq-eqb, ltb-true, not-true}
-use Rattle.network.specs.Net.{Net, Fit, Limits, size, line, tail, head, least, most}
+use Rattle.network.specs.Net.{Net, Limits, size, line, tail, head, least, most}
 use Rattle.network.specs.Flow.{at}
 use Rattle.network.specs.Records.{netOf}
 use Rattle.network.specs.declared.line_record.LineRecord.{LineRecord}
 use Rattle.flows.specs.Steps.{HasRoom}
-use Rattle.index.specs.Rows.{Indexed, Leaves, start, stepAt}
-use Rattle.index.specs.Steps.{origin, target}
+use Rattle.index.specs.Rows.{Leaves, start, stepAt}
+use Rattle.index.specs.Steps.{target}
 use Rattle.index.specs.declared.step.Step.{Step}
 use Rattle.index.proofs.Lines.{size-is}
 use Rattle.verdicts.specs.Search.{Ground, passable}

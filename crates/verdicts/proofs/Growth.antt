@@ -1,15 +1,15 @@
 -- How what a search has found grows.
-use Prim.Native.Nat.{ℕ, _+_, _<_, _≤_}
+use Prim.Native.Nat.{ℕ, _<_}
 use mathlib.Core.Path.{_≡_, refl, sym, _∙_, ap}
-use mathlib.Core.Bool.{Bool, true, false, _||_}
+use mathlib.Core.Bool.{Bool, true, _||_}
 use mathlib.Core.List.{List}
 use mathlib.Core.Logic.{inl, inr}
 use native.Mathlib.Omega.{arith}
 use lib.Dec.{eqb}
-use Rattle.std.proofs.shelf.Tests.{cases-bool, eq-eqb, eqb-true, ne-eqb, or-cases, or-left, or-right, or-from}
+use Rattle.std.proofs.shelf.Tests.{cases-bool, eq-eqb, eqb-true, ne-eqb, or-cases, or-left, or-right}
 use Rattle.network.specs.Net.{Net, size}
 use Rattle.network.specs.Flow.{at}
-use Rattle.flows.specs.Trails.{Reached, Spread}
+use Rattle.flows.specs.Trails.{Spread}
 use Rattle.flows.proofs.Trails.{spread-more, stays-wider}
 use Rattle.index.specs.Steps.{origin, target}
 use Rattle.index.specs.declared.step.Step.{Step}

@@ -12,10 +12,9 @@ use Rattle.network.specs.Flow.{at, Lawful}
 use Rattle.network.specs.Records.{lineOf, netOf}
 use Rattle.network.specs.declared.line_record.LineRecord.{LineRecord}
 use Rattle.flows.specs.Bounds.{AtMost, AtLeast}
-use Rattle.flows.specs.Trails.{Spread}
 use Rattle.flows.proofs.Lawful.{top, floor, full, bare}
 use Rattle.flows.proofs.Round.{free-above, free-below}
-use Rattle.index.proofs.Lines.{size-is, line-is, noRecord}
+use Rattle.index.proofs.Lines.{line-at, line-is, noRecord}
 use Rattle.verdicts.specs.Search.{Answer}
 use Rattle.verdicts.specs.Verdicts.{CanRise, CanFall, Verdict}
 
@@ -32,16 +31,10 @@ module _ (g : Net) (limits : Limits g) (f : List ℕ) (law : Lawful g f) (l : �
 -- the same for a line that is read from its record
 module _ (nodes : ℕ) (lines : List LineRecord) (limits : Limits (netOf nodes lines)) (place : ℕ) (inside : place < length lines) where
   listed : place < size (netOf nodes lines)
-  listed = omega (arith, size-is nodes lines)
+  listed = line-at nodes lines place limits inside .inside
 
   is : line (netOf nodes lines) place ≡ lineOf (getD lines place noRecord)
   is = line-is nodes lines place
-
-  pub tail-inside : getD lines place noRecord .tail < nodes
-  tail-inside = omega (arith, limits .each place listed .tail, ap tail is)
-
-  pub head-inside : getD lines place noRecord .head < nodes
-  head-inside = omega (arith, limits .each place listed .head, ap head is)
 
   pub at-its-most : (f : List ℕ) → getD lines place noRecord .most ≤ at f place → AtMost (netOf nodes lines) place (at f place)
   at-its-most f bound = full (netOf nodes lines) place (at f place) listed (omega (arith, ap most is))

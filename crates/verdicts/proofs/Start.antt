@@ -1,14 +1,14 @@
 -- The start of a search, with blank marks and an empty list, and its answer.
-use Prim.Native.Nat.{ℕ, _+_, _<_, _≤_, min}
-use mathlib.Core.Path.{_≡_, refl, sym, _∙_, ap, subst}
+use Prim.Native.Nat.{ℕ, min}
+use mathlib.Core.Path.{_≡_, sym, _∙_, ap}
 use mathlib.Core.Bool.{Bool, true, false, _||_}
 use mathlib.Core.List.{List, _++_}
 use mathlib.Core.Logic.{inl, inr}
 use native.Mathlib.Omega.{arith}
 use lib.Dec.{eqb}
 use lib.ListN.{length, replicate}
-use Rattle.std.proofs.shelf.Lists.{append-nil, drop-all, length-append, length-replicate, length-drop}
-use Rattle.std.proofs.shelf.Tests.{both-ways, cases-bool, eqb-true, ne-eqb, or-cases}
+use Rattle.std.proofs.shelf.Lists.{append-nil, drop-all, length-replicate}
+use Rattle.std.proofs.shelf.Tests.{both-ways, eqb-true, ne-eqb, or-cases}
 use Rattle.network.specs.Net.{Net}
 use Rattle.network.specs.Flow.{at}
 use Rattle.flows.specs.Trails.{Spread}

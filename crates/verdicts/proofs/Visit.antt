@@ -1,7 +1,7 @@
 -- The visit of a node, step by step.
 use Prim.Native.Nat.{ℕ, _+_, _<_, _≤_}
-use mathlib.Core.Path.{_≡_, refl, sym, _∙_, ap, subst}
-use mathlib.Core.Bool.{Bool, true, false}
+use mathlib.Core.Path.{_≡_, sym, _∙_, ap, subst}
+use mathlib.Core.Bool.{true, false}
 use mathlib.Core.List.{List}
 use mathlib.Core.Logic.{inl, inr}
 use denote.Ref.{name}
@@ -9,7 +9,7 @@ use native.Mathlib.Omega.{arith}
 use Rattle.std.proofs.shelf.Tests.{both-ways, cases-lt}
 use Rattle.buffers.specs.declared.marks.Marks.{Marks}
 use Rattle.buffers.specs.declared.places.Places.{Places}
-use Rattle.network.specs.Net.{Net, size}
+use Rattle.network.specs.Net.{Net}
 use Rattle.index.specs.Rows.{Indexed, Leaves, start, stepAt}
 use Rattle.index.specs.Steps.{origin, target}
 use Rattle.index.specs.declared.step.Step.{Step}

@@ -1,23 +1,22 @@
 -- The visits of the listed nodes, one after the other, and what they come to.
 use Prim.Native.Nat.{ℕ, _+_, _<_, _≤_}
-use mathlib.Core.Path.{_≡_, refl, sym, _∙_, ap, subst}
-use mathlib.Core.Bool.{Bool, true, false, not}
+use mathlib.Core.Path.{_≡_, refl, sym, _∙_, subst}
+use mathlib.Core.Bool.{true, false, not}
 use mathlib.Core.List.{List}
 use mathlib.Core.Logic.{inl, inr}
 use native.Mathlib.Omega.{arith}
 use borrow.Author.Count.{below-more}
-use lib.Dec.{eqb, ltb}
-use lib.ListN.{length, getD}
+use lib.Dec.{eqb}
 use Rattle.std.specs.declared.option.Option.the-variants.{Some, None}
 use Rattle.std.specs.Finite.{nth}
 use Rattle.std.proofs.shelf.Tests.{and-from, cases-lt, lt-ltb, ne-eqb, not-from-false}
 use Rattle.std.proofs.shelf.Maps.{nth-past}
 use Rattle.std.proofs.shelf.Lists.{length-take-le}
-use Rattle.network.specs.Net.{Net, size, line, tail, head, least, most}
+use Rattle.network.specs.Net.{Net, line, tail, head, least, most}
 use Rattle.network.specs.Flow.{at}
 use Rattle.network.specs.Records.{netOf}
 use Rattle.network.specs.declared.line_record.LineRecord.{LineRecord}
-use Rattle.flows.specs.Bounds.{Closed, Shut}
+use Rattle.flows.specs.Bounds.{Closed}
 use Rattle.flows.proofs.Trails.{shut-by}
 use Rattle.buffers.specs.Places.{elements}
 use Rattle.buffers.specs.declared.marks.Marks.{Marks}

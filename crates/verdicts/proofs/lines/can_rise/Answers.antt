@@ -1,5 +1,6 @@
 use native.Mathlib.Omega.{arith}
-use Rattle.verdicts.proofs.Judging.{tail-inside, head-inside, at-its-most, can-rise}
+use Rattle.index.proofs.Lines.{line-at}
+use Rattle.verdicts.proofs.Judging.{at-its-most, can-rise}
 use Rattle.verdicts.proofs.lines.can_rise.Needs as need
 
 pub returns-then-flow-place : need.returns-then-flow-place
@@ -15,11 +16,8 @@ reaches-requires c κs =
       ground = c .pre .ground;
       queue = c .pre .queue;
       start =
-          omega (
-            arith,
-            tail-inside _ (c .args .lines .now) (c .pre .ground .limits) (c .args .place) (c .pre .place),
-            head-inside _ (c .args .lines .now) (c .pre .ground .limits) (c .args .place) (c .pre .place),
-          );
+          let line = line-at _ (c .args .lines .now) (c .args .place) (c .pre .ground .limits) (c .pre .place) in
+          omega (arith, line .tailNode, line .headNode);
     }
 
 pub returns : need.returns

@@ -1,4 +1,4 @@
-use mathlib.Core.Path.{_≡_, refl, sym, subst, ap, _∙_}
+use mathlib.Core.Path.{refl, sym, subst, ap, _∙_}
 use native.Mathlib.Omega.{arith}
 use Rattle.verdicts.specs.Search.{found, reached, Ground}
 use Rattle.verdicts.proofs.Visits.{listed-fits, read-some, read-none, searching-none, searching-more, search-grows, closed-by}
