@@ -1,0 +1,4 @@
+pub mod Cursors
+pub mod Walks
+pub mod Pushes
+pub mod Phases

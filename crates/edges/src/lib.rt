@@ -1,0 +1,3 @@
+// The sift at its edges: nothing but tests.
+#[cfg(test)]
+mod tests;

@@ -1,0 +1,3 @@
+// Layers over a listed network: nothing but tests.
+#[cfg(test)]
+mod tests;
