@@ -109,3 +109,37 @@ fn the_largest_network(rt: LibcRuntime) -> Result<(), Fail> {
     check_eq(answer, Ok(()))?;
     check_eq(verdicts.contains(&1), false)
 }
+
+// As large, and tight: 64 lines must carry 65,535 each, and the way back is too narrow. The sift searches until that is sure.
+#[test]
+fn the_largest_network_without_a_flow(rt: LibcRuntime) -> Result<(), Fail> {
+    let heap = rt.alloc();
+    let mut lines = Vec::new(heap);
+    for k in 0..64u16 {
+        lines.push(line(k, 1023 - k, 65535, 65535))?;
+    }
+    for k in 64..16384u32 {
+        let tail = (k * 31 % 1024) as u16;
+        let head = (k * 37 / 5 % 1024) as u16;
+        lines.push(line(tail, head, 0, (k * 13 % 4096) as u16))?;
+    }
+    let mut network = Listed::new();
+    network.load(1024, 16384, &lines)?;
+    let mut flow = vec![in heap; 0u32; 16384]?;
+    let mut verdicts = vec![in heap; 0u8; 16384]?;
+    let mut bottleneck = vec![in heap; 0u8; 1024]?;
+    let mut marks = vec![in heap; 0u8; 1024]?;
+    let mut nodes = vec![in heap; 0u16; 1024]?;
+    let mut steps = vec![in heap; NO_STEP; 1024]?;
+    let answer = sift(
+        &network,
+        &mut flow,
+        &mut verdicts,
+        &mut bottleneck,
+        &mut marks,
+        &mut nodes,
+        &mut steps,
+    );
+    check(answer.is_err())?;
+    check(bottleneck.contains(&1))
+}
