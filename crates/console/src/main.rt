@@ -1,5 +1,7 @@
 // The console: a job file from standard input, its transcript to standard output. All that is printed is made by one call of the
 // library; the program moves bytes.
+#![tactic(auto)]
+
 ghost use Rattle.std.specs.Prelude.{◌≤◌, length, IfOk};
 
 use jobrun::run::run_file;

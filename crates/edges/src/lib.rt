@@ -1,3 +1,5 @@
 // The sift at its edges: nothing but tests.
+#![tactic(auto)]
+
 #[cfg(test)]
 mod tests;

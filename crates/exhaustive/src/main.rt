@@ -1,5 +1,7 @@
 // Counts all numberings and all flows of small jobs and networks by the definitions alone, and compares every outcome, verdict,
 // fixed amount and bottleneck with the sift's.
+#![tactic(auto)]
+
 mod jobs;
 mod lines;
 mod named;

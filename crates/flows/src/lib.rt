@@ -1,4 +1,6 @@
 // The theorems on lawful flows. Nothing here is run: each function's contract is a theorem, and its check is the proof.
+#![tactic(auto)]
+
 ghost use Rattle.flows.specs.Theorems.{EnteringEqualsLeaving, BottleneckExcludesFlows, StuckSearchLeavesBottleneck};
 ghost use Rattle.flows.specs.Theorems.{ClosedSetFixesFromAbove, ClosedSetFixesFromBelow, WayRoundFrees};
 ghost use Rattle.flows.specs.Theorems.{PushKeepsBoundsAndLowersExcess, SameMeaningSameFlows};

@@ -1,4 +1,6 @@
 // Theorems on the format of job files, each named by the contract of a function.
+#![tactic(auto)]
+
 ghost use Rattle.format.specs.Theorems.{FilesHoldOneThing, ChecksAcceptExactlyFiles, GoodFilesAreAccepted, AtMostOneFile, AtLeastOneFile};
 
 // Reading gives the job and its acts back.

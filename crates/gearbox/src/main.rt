@@ -1,4 +1,6 @@
 // Runs one list of calls on the gearbox job and on a listed network of the same meaning, and prints each action of both.
+#![tactic(auto)]
+
 mod job;
 mod print;
 mod script;

@@ -1,4 +1,6 @@
 // The working copy of a network that a search goes over: its lines in lent memory, and the steps that leave each node.
+#![tactic(auto)]
+
 pub mod copy;
 pub mod rows;
 pub mod step;

@@ -1,4 +1,6 @@
 // The network of a whole job: the one-series network, closed from sink to source with the bounds of the total.
+#![tactic(auto)]
+
 ghost use Rattle.layers.specs.Closing.{ClosesOn};
 ghost use Rattle.series.specs.Job.{job_of, job_net};
 ghost use Rattle.job.specs.Closed.{ClosesJob};

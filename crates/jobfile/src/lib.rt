@@ -1,4 +1,6 @@
 // The job file: it is read whole, or the first fault is told.
+#![tactic(auto)]
+
 pub mod acts;
 mod check;
 pub mod fault;

@@ -1,4 +1,6 @@
 // Runs a whole job file: its acts on the closed network of its job, or the line that tells its fault.
+#![tactic(auto)]
+
 mod acts;
 mod fault;
 pub mod run;

@@ -1,4 +1,6 @@
 // Judges numberings of the gearbox job by hand, and prints each action.
+#![tactic(auto)]
+
 use series::judge::{JudgeRefusal, UNSIGNED};
 use series::load::LoadRefusal;
 use series::one_series::OneSeries;

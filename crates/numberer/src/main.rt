@@ -1,4 +1,6 @@
 // Numbers two jobs, without entries and with them, has the judge pass each numbering, and turns it into its flow.
+#![tactic(auto)]
+
 mod print;
 mod samples;
 

@@ -1,4 +1,6 @@
 // Numberings from flows, and flows from numberings.
+#![tactic(auto)]
+
 pub mod flow;
 pub mod number;
 #[cfg(test)]

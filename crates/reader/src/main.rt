@@ -1,4 +1,6 @@
 // Reads a job file from standard input, and prints what its blocks and records hold, or its first fault.
+#![tactic(auto)]
+
 ghost use Rattle.std.specs.Prelude.{◌≤◌, length, IfOk};
 
 use contents::act::Act;

@@ -1,4 +1,6 @@
 // Records of a job file: the head, parts, signs and acts, each in 30 bytes.
+#![tactic(auto)]
+
 pub mod act;
 pub mod fault;
 pub mod head;

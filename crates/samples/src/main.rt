@@ -1,5 +1,7 @@
 // Runs all sample files in one run: standard input has each behind its length in two bytes, and what the console would print of each
 // is printed in order.
+#![tactic(auto)]
+
 use jobrun::run::run_file;
 use std::io;
 use std::io::{Read, Write};

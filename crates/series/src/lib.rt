@@ -1,4 +1,6 @@
 // One series of signs: the network of a job's parts and signs, its legend, and the judge of a numbering by hand.
+#![tactic(auto)]
+
 pub mod judge;
 pub mod legend;
 pub mod lines;

@@ -1,4 +1,6 @@
 // The sift: a lawful flow of any network with a verdict for each line, or a bottleneck that proves that there is none.
+#![tactic(auto)]
+
 mod blank;
 pub mod refusal;
 pub mod sift;

@@ -1,4 +1,6 @@
 // Sifts a few small networks, and prints each action: what every line carries and whether it is fixed, or a bottleneck.
+#![tactic(auto)]
+
 use index::step::Step;
 use listed::lent::Listed;
 use network::line_record::LineRecord;

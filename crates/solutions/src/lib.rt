@@ -1,5 +1,7 @@
 // Numberings, solutions and flows are the same thing. Nothing here is run: each function's contract is a theorem, and its check
 // is the proof.
+#![tactic(auto)]
+
 ghost use Rattle.solutions.specs.Theorems.{LawfulNumberingsAreSolutions, LawfulNumberingsAreLawfulFlows, UnderEntriesToo, FixedAndFreeLinesTellNumberings};
 
 // The lawful numberings of a job are exactly the solutions of its rules, said without bytes.

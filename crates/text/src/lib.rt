@@ -1,4 +1,6 @@
 // Lines of text in a lent buffer: fixed byte strings and decimal numbers, one behind the other.
+#![tactic(auto)]
+
 ghost use Rattle.std.specs.Prelude.{◌≡◌, ◌+◌, ◌≤◌, [], ◌∷◌, length, decimal};
 ghost use Rattle.text.specs.Placed.{Placed};
 
