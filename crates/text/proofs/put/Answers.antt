@@ -10,7 +10,7 @@ returns c =
     let k = at + length bytes - at in
     let same : at + k ≡ at + length bytes = omega arith in
     record {
-      text = ap (λ z. take at text ++ (z ++ drop k (drop at text))) c.copy-from-slice.ensures.after ∙ ap (λ z. take at text ++ (bytes ++ z)) (drop-drop k at text ∙ ap (λ n. drop n text) same);
+      text = ap (λ z. take at text ++ (z ++ drop k (drop at text))) c.copy_from_slice.ensures.after ∙ ap (λ z. take at text ++ (bytes ++ z)) (drop-drop k at text ∙ ap (λ n. drop n text) same);
       end = refl;
       room = c.requires;
     }

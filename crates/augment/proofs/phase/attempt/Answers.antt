@@ -3,8 +3,8 @@ use Rattle.std.proofs.lemmas.Bool.{false≢true}
 use Rattle.augment.proofs.Walks.{walk_trail}
 use Rattle.augment.proofs.phase.attempt.Goals as goal
 
-pub walk-down-requires : goal.walk-down-requires
-walk-down-requires c =
+pub walk_down-requires : goal.walk_down-requires
+walk_down-requires c =
     record {
       ground =
           record {

@@ -27,6 +27,6 @@ pub returns : goal.returns
 returns c =
     let fresh = fresh_start _ c.requires.indexed c.requires.levels (λ v l. c.rewind.ensures v (omega (arith, c.requires.cursor))) in
     record {
-      mending = c.drain-all.ensures.phase.mending;
-      falls = omega (arith, c.drain-all.ensures.most, c.attempt.ensures.attempted.falls (c.attempt.ensures.attempted.sure fresh));
+      mending = c.drain_all.ensures.phase.mending;
+      falls = omega (arith, c.drain_all.ensures.most, c.attempt.ensures.attempted.falls (c.attempt.ensures.attempted.sure fresh));
     }

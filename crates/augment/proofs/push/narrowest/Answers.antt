@@ -12,7 +12,7 @@ use Rattle.augment.proofs.push.narrowest.Goals.{then-here-amount, else-here-amou
 pub room-here-requires : goal.room-here-requires
 room-here-requires c =
     let here = c.requires.inside c.loop-k.k (omega (arith, c.loop-k-test.true, c.len-k-end.ensures)) in
-    let inside = line_below c.step-at.result (step_at c.args.walk.now.cells.now c.loop-k.k) (length c.args.lines.now) c.step-at.ensures here in
+    let inside = line_below c.step_at.result (step_at c.args.walk.now.cells.now c.loop-k.k) (length c.args.lines.now) c.step_at.ensures here in
     let size = size_is 0 c.args.lines.now in
     record {
       inside = inside;
@@ -23,7 +23,7 @@ room-here-requires c =
 
 pub loop-k-preserved : goal.loop-k-preserved
 loop-k-preserved c =
-    let here = c.room-here.ensures ∙ ap (room_of (net_of 0 c.args.lines.now) (at c.args.flow.now)) c.step-at.ensures in
+    let here = c.room-here.ensures ∙ ap (room_of (net_of 0 c.args.lines.now) (at c.args.flow.now)) c.step_at.ensures in
     elim c.if-here-amount.branch [
       | then-here-amount w ↦ subst (Narrowest _ _ _ _ _) (sym w.amount-is) (narrowest_takes c.loop-k.invariant _ here w.if-here-amount.true)
       | else-here-amount w ↦ subst (Narrowest _ _ _ _ _) (sym w.amount-is) (narrowest_keeps c.loop-k.invariant (omega (arith, w.if-here-amount.false, here)))

@@ -12,8 +12,8 @@ narrowest-amount-requires c =
       inside = λ k l. omega (arith, trail_inside _ _ _ _ _ _ c.requires.trail k l);
     }
 
-pub push-along-requires : goal.push-along-requires
-push-along-requires c =
+pub push_along-requires : goal.push_along-requires
+push_along-requires c =
     record {
       net = _;
       limits = c.requires.limits;
@@ -28,4 +28,4 @@ returns c =
     push_whole _ _ _ _ _ _ _ _ _ c.requires.mending c.requires.trail c.narrowest-amount.ensures.rooms c.requires.from c.requires.spare
     (omega (arith, c.requires.to, c.requires.lack)) (omega (arith, c.narrowest-amount.ensures.most, c.min.ensures)) (omega (arith, c.narrowest-amount.ensures.most, c.min.ensures))
     (c.narrowest-amount.ensures.some (omega (arith, c.min.ensures, c.requires.much, c.requires.little)) (trail_some _ _ _ _ _ _ c.requires.trail)) _
-    c.push-along.ensures
+    c.push_along.ensures

@@ -27,30 +27,30 @@ pub origin-node-requires : goal.origin-node-requires
 origin-node-requires c =
     omega (
       arith,
-      inside (c.requires (omega (arith, c.if-len-eq0.false, c.len.ensures))) c.take-last.ensures.last,
+      inside (c.requires (omega (arith, c.if-len-eq0.false, c.len.ensures))) c.take_last.ensures.last,
       size_is 0 c.args.lines.now,
     )
 
-pub offset-bounds-cursor-node : goal.offset-bounds-cursor-node
-offset-bounds-cursor-node c =
-    omega (arith, counted (c.requires (omega (arith, c.if-len-eq0.false, c.len.ensures))) c.take-last.ensures.last c.origin-node.ensures)
+pub offset_bounds-cursor-node : goal.offset_bounds-cursor-node
+offset_bounds-cursor-node c =
+    omega (arith, counted (c.requires (omega (arith, c.if-len-eq0.false, c.len.ensures))) c.take_last.ensures.last c.origin-node.ensures)
 
 pub bounds-cursor-node : goal.bounds-cursor-node
-bounds-cursor-node c = counted (c.requires (omega (arith, c.if-len-eq0.false, c.len.ensures))) c.take-last.ensures.last c.origin-node.ensures
+bounds-cursor-node c = counted (c.requires (omega (arith, c.if-len-eq0.false, c.len.ensures))) c.take_last.ensures.last c.origin-node.ensures
 
-pub overflow-add-cursor : goal.overflow-add-cursor
-overflow-add-cursor c =
-    omega (arith, room (c.requires (omega (arith, c.if-len-eq0.false, c.len.ensures))) c.take-last.ensures.last c.origin-node.ensures)
+pub overflow_add-cursor : goal.overflow_add-cursor
+overflow_add-cursor c =
+    omega (arith, room (c.requires (omega (arith, c.if-len-eq0.false, c.len.ensures))) c.take_last.ensures.last c.origin-node.ensures)
 
 pub returns : goal.returns
 returns c =
     record {
-      cells = c.take-last.ensures.cells;
-      count = c.take-last.ensures.count;
+      cells = c.take_last.ensures.cells;
+      count = c.take_last.ensures.count;
       retraced =
           record {
             some = omega (arith, c.if-len-eq0.false, c.len.ensures);
-            node = c.origin-node.ensures ∙ ap (origin (net_of 0 c.args.lines.now)) c.take-last.ensures.last;
+            node = c.origin-node.ensures ∙ ap (origin (net_of 0 c.args.lines.now)) c.take_last.ensures.last;
             on = refl;
           };
     }

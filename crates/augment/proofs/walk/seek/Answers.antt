@@ -6,8 +6,8 @@ use Rattle.network.proofs.Records.{size_is}
 use Rattle.reach.proofs.Steps.{target_inside}
 use Rattle.augment.proofs.walk.seek.Goals as goal
 
-pub leads-down-requires : goal.leads-down-requires
-leads-down-requires c =
+pub leads_down-requires : goal.leads_down-requires
+leads_down-requires c =
     let leaves = c.requires.ground.indexed.sound c.args.node c.loop-k.k c.requires.node (omega (arith, c.requires.low, c.loop-k.auto.k)) c.loop-k-test.true in
     let size = size_is c.args.nodes c.args.lines.now in
     record {
@@ -20,14 +20,14 @@ leads-down-requires c =
     }
 
 pub loop-k-preserved : goal.loop-k-preserved
-loop-k-preserved c = below_more _ _ c.loop-k.invariant (λ _ leads. false≢true (c.if-leads-down.ensures.1 leads))
+loop-k-preserved c = below_more _ _ c.loop-k.invariant (λ _ leads. false≢true (c.if-leads_down.ensures.1 leads))
 
-pub returns-then-leads-down : goal.returns-then-leads-down
-returns-then-leads-down c =
+pub returns-then-leads_down : goal.returns-then-leads_down
+returns-then-leads_down c =
     record {
       low = c.loop-k.auto.k;
       high = omega (arith, c.loop-k-test.true);
-      found = λ _. c.if-leads-down.ensures.0 refl;
+      found = λ _. c.if-leads_down.ensures.0 refl;
       passed = c.loop-k.invariant;
     }
 

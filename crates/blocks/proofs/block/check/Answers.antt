@@ -7,8 +7,8 @@ use Rattle.blocks.proofs.block.check.Goals as goal
 pub loop-place-init : goal.loop-place-init
 loop-place-init c = (weighted_none c.args.block.now, omega arith)
 
-pub overflow-add-sum-in-loop-place : goal.overflow-add-sum-in-loop-place
-overflow-add-sum-in-loop-place c = let small = term_small c.loop-place.place c.from.result (omega arith) (omega arith) in omega (arith, small)
+pub overflow_add-sum-in-loop-place : goal.overflow_add-sum-in-loop-place
+overflow_add-sum-in-loop-place c = let small = term_small c.loop-place.place c.from.result (omega arith) (omega arith) in omega (arith, small)
 
 pub loop-place-preserved : goal.loop-place-preserved
 loop-place-preserved c =

@@ -15,8 +15,8 @@ crosses-requires c =
     let fit = c.requires.limits.each c.loop-k.k (omega (arith, size_is c.args.nodes c.args.lines.now, c.loop-k-test.true)) in
     record { inside = omega (arith, ap tail e, fit.tail, c.requires.bytes); outside = omega (arith, ap head e, fit.head, c.requires.bytes) }
 
-pub overflow-add-sum : goal.overflow-add-sum
-overflow-add-sum c =
+pub overflow_add-sum : goal.overflow_add-sum
+overflow_add-sum c =
     omega (
       arith,
       c.loop-k.invariant,

@@ -5,4 +5,4 @@ use Rattle.desk.proofs.append.append_accepted.Goals as goal
 
 pub returns : goal.returns
 returns c =
-    subst (λ bytes. Appended (vec_items c.args.transcript.now) (vec_items c.append-front.new.transcript) bytes c.append-front.result) (placed_front c.put-accepted-written.ensures) c.append-front.ensures
+    subst (λ bytes. Appended (vec_items c.args.transcript.now) (vec_items c.append_front.new.transcript) bytes c.append_front.result) (placed_front c.put_accepted-written.ensures) c.append_front.ensures

@@ -24,7 +24,7 @@ loop-k-preserved g c =
     let bytes = vec_items c.loop-k.transcript in
     let then = vec_items c.step.new.transcript in
     let inside : k < length acts = omega arith in
-    let stepped = subst (λ x. Stepped (g.L.Network.meaning x) (g.L.Legend.key x) l (k + 1) (change_of (get_or acts k (Fix 0 0))) es after bytes then) c.loop-k.invariant.0 c.in-ok-step.ensures.steps in
+    let stepped = subst (λ x. Stepped (g.L.Network.meaning x) (g.L.Legend.key x) l (k + 1) (change_of (get_or acts k (Fix 0 0))) es after bytes then) c.loop-k.invariant.0 c.in_ok-step.ensures.steps in
     let given = subst (λ a. Stepped (g.L.Network.meaning b) (g.L.Legend.key b) l (k + 1) (change_of a) es after bytes then) (get_or_default acts k (Fix 0 0) Query inside) stepped in
     (c.step.ensures.below ∙ c.loop-k.invariant.0, goes_on (g.L.Network.meaning b) (g.L.Legend.key b) l acts es after bytes then k c.loop-k.invariant.1 inside given)
 

@@ -9,15 +9,15 @@ use Rattle.desk.proofs.step.change.Goals as goal
 pub returns : goal.returns
 returns g c =
     let layer = c.args.layer.now in
-    let after = c.act-line.new.layer in
+    let after = c.act_line.new.layer in
     let number = c.args.number in
     let made = c.in-Ok.ensures in
     let logged = made.acts.logged c.requires in
     let so_far = vec_items c.args.transcript.now in
-    let then = vec_items c.append-front.new.transcript in
+    let then = vec_items c.append_front.new.transcript in
     let bytes = act_line number made.answer in
-    let appended = subst (λ xs. Appended so_far then xs c.append-front.result) (placed_front made.line) c.append-front.ensures in
+    let appended = subst (λ xs. Appended so_far then xs c.append_front.result) (placed_front made.line) c.append_front.ensures in
     record {
       below = made.acts.below;
-      steps = steps_from (g.L.Network.meaning layer.below) (g.L.Legend.key layer.below) (g.B.Labels.labelled c.args.labels.now) number (Some c.args.change) (entries_of layer.column) (entries_of after.column) so_far then bytes c.append-front.result appended (ap (act_line number) logged.answer) logged.left logged.stands;
+      steps = steps_from (g.L.Network.meaning layer.below) (g.L.Legend.key layer.below) (g.B.Labels.labelled c.args.labels.now) number (Some c.args.change) (entries_of layer.column) (entries_of after.column) so_far then bytes c.append_front.result appended (ap (act_line number) logged.answer) logged.left logged.stands;
     }

@@ -3,7 +3,7 @@ use Rattle.network.specs.Net.{size}
 use Rattle.index.specs.Copy.{Held}
 use Rattle.index.proofs.Copied.{answer_is, answered, held_more, same_from_held, limits_same}
 use Rattle.index.proofs.copy.copy_lines.Goals as goal
-use Rattle.index.proofs.copy.copy_lines.Goals.{in-Some, in-default}
+use Rattle.index.proofs.copy.copy_lines.Goals.{in-Some, in_default}
 
 pub loop-place-preserved : goal.loop-place-preserved
 loop-place-preserved g c =
@@ -14,7 +14,7 @@ loop-place-preserved g c =
       | in-Some w ↦
           let told_is = answer_is n place inside _ w.in-Some.ensures in
           subst (λ records. Held n records (place + 1)) (sym w.lines-is) (held_more n c.loop-place.lines place _ (omega arith) told_is c.loop-place.invariant)
-      | in-default w ↦ absurd (answered n place inside w.in-default.ensures)
+      | in_default w ↦ absurd (answered n place inside w.in_default.ensures)
     ]
 
 pub returns : goal.returns

@@ -21,17 +21,17 @@ take_next acts k a h e =
 pub unreachable-requires : goal.unreachable-requires
 unreachable-requires c =
     let acts = acts_of c.args.job.now.file.now in
-    let inside : c.loop-k.k < length acts = omega (arith, c.act-count-k-end.ensures) in
+    let inside : c.loop-k.k < length acts = omega (arith, c.act_count-k-end.ensures) in
     none_inside acts c.loop-k.k inside (c.in-None.ensures c.requires)
 
 pub loop-k-preserved : goal.loop-k-preserved
 loop-k-preserved c =
     let acts = acts_of c.args.job.now.file.now in
-    let inside : c.loop-k.k < length acts = omega (arith, c.act-count-k-end.ensures) in
-    pushed (c.in-Some.act ∷ []) c.loop-k.invariant c.in-ok-push.was c.push.ensures.items ∙ take_next acts c.loop-k.k c.in-Some.act inside (c.in-Some.ensures c.requires)
+    let inside : c.loop-k.k < length acts = omega (arith, c.act_count-k-end.ensures) in
+    pushed (c.in-Some.act ∷ []) c.loop-k.invariant c.in_ok-push.was c.push.ensures.items ∙ take_next acts c.loop-k.k c.in-Some.act inside (c.in-Some.ensures c.requires)
 
 pub returns : goal.returns
 returns c =
     let acts = acts_of c.args.job.now.file.now in
-    let all : length acts ≤ c.loop-k.k = omega (arith, c.act-count-k-end.ensures) in
+    let all : length acts ≤ c.loop-k.k = omega (arith, c.act_count-k-end.ensures) in
     c.loop-k.invariant ∙ take_all c.loop-k.k acts all

@@ -2,17 +2,17 @@ use Rattle.std.proofs.Common.{◌+◌, ◌≤◌, [], ◌∷◌, ◌++◌, lengt
 use Rattle.text.proofs.Places.{placed_then, length_after}
 use Rattle.jobrun.proofs.fault.put_fault.Goals as goal
 
-pub put-field-block-at-requires : goal.put-field-block-at-requires
-put-field-block-at-requires c = omega (arith, length_after c.put-number-at.ensures, c.put-number-at.ensures.end, c.requires)
+pub put_field-block_at-requires : goal.put_field-block_at-requires
+put_field-block_at-requires c = omega (arith, length_after c.put_number-at.ensures, c.put_number-at.ensures.end, c.requires)
 
-pub put-field-place-at-requires : goal.put-field-place-at-requires
-put-field-place-at-requires c =
-    omega (arith, length_after c.put-number-at.ensures, c.put-number-at.ensures.end, length_after c.put-field-block-at.ensures.placed, c.put-field-block-at.ensures.bound, c.requires)
+pub put_field-place_at-requires : goal.put_field-place_at-requires
+put_field-place_at-requires c =
+    omega (arith, length_after c.put_number-at.ensures, c.put_number-at.ensures.end, length_after c.put_field-block_at.ensures.placed, c.put_field-block_at.ensures.bound, c.requires)
 
-pub put-field-requires : goal.put-field-requires
-put-field-requires c =
-    omega (arith, length_after c.put-number-at.ensures, c.put-number-at.ensures.end, length_after c.put-field-block-at.ensures.placed, c.put-field-block-at.ensures.bound, length_after c.put-field-place-at.ensures.placed, c.put-field-place-at.ensures.bound, c.requires)
+pub put_field-requires : goal.put_field-requires
+put_field-requires c =
+    omega (arith, length_after c.put_number-at.ensures, c.put_number-at.ensures.end, length_after c.put_field-block_at.ensures.placed, c.put_field-block_at.ensures.bound, length_after c.put_field-place_at.ensures.placed, c.put_field-place_at.ensures.bound, c.requires)
 
 pub returns : goal.returns
 returns c =
-    placed_then (placed_then (placed_then c.put-number-at.ensures c.put-field-block-at.ensures.placed) c.put-field-place-at.ensures.placed) c.put-field.ensures.placed
+    placed_then (placed_then (placed_then c.put_number-at.ensures c.put_field-block_at.ensures.placed) c.put_field-place_at.ensures.placed) c.put_field.ensures.placed

@@ -7,16 +7,16 @@ use Rattle.jobrun.proofs.fault.put_field.Goals as goal
 long : (n : _) → n < 2 ^ 64 → length (decimal n) ≤ 20
 long n fits = length-decimal-le 20 n (omega arith) (omega arith) fits
 
-pub put-number-end-requires : goal.put-number-end-requires
-put-number-end-requires c = omega (arith, long c.args.number (omega arith), c.requires)
+pub put_number-end-requires : goal.put_number-end-requires
+put_number-end-requires c = omega (arith, long c.args.number (omega arith), c.requires)
 
-pub put-byte-requires : goal.put-byte-requires
-put-byte-requires c =
-    omega (arith, long c.args.number (omega arith), length_after c.put-number-end.ensures, c.put-number-end.ensures.end, c.requires)
+pub put_byte-requires : goal.put_byte-requires
+put_byte-requires c =
+    omega (arith, long c.args.number (omega arith), length_after c.put_number-end.ensures, c.put_number-end.ensures.end, c.requires)
 
 pub returns : goal.returns
 returns c =
     record {
-      placed = placed_then {xs = decimal c.args.number} {ys = c.args.behind ∷ []} c.put-number-end.ensures c.put-byte.ensures;
-      bound = omega (arith, long c.args.number (omega arith), c.put-number-end.ensures.end, c.put-byte.ensures.end);
+      placed = placed_then {xs = decimal c.args.number} {ys = c.args.behind ∷ []} c.put_number-end.ensures c.put_byte.ensures;
+      bound = omega (arith, long c.args.number (omega arith), c.put_number-end.ensures.end, c.put_byte.ensures.end);
     }

@@ -3,4 +3,4 @@ use Rattle.layout.proofs.form.read_form.Goals as goal
 
 pub returns : goal.returns
 returns c =
-    form_read c.args.file.now c.block-at.result.now c.args.n c.args.m c.args.b c.expected-kind.result c.read-block.result c.expected-kind.ensures c.block-at.ensures c.read-block.ensures
+    form_read c.args.file.now c.block_at.result.now c.args.n c.args.m c.args.b c.expected-kind.result c.read_block.result c.expected-kind.ensures c.block_at.ensures c.read_block.ensures

@@ -23,7 +23,7 @@ returns-in-Ok g c =
     let keyed = g.met.L.Legend.keyed c.args.legend.now in
     let t = table_of key last.flow last.verdicts in
     record {
-      enough = ⊎_elim (λ lt. omega (arith, lt, c.if-text-lt-LISTING-TEXT.false)) (not_from_Decides _ c.is-short.ensures c.if-is-short.false);
+      enough = ⊎_elim (λ lt. omega (arith, lt, c.if-text-lt-LISTING-TEXT.false)) (not_from_Decides _ c.is_short.ensures c.if-is_short.false);
       sifted = ran;
       bytes = render l t;
       lists = record {
@@ -32,5 +32,5 @@ returns-in-Ok g c =
         shows = table_shows m after ran.answer (omega (arith, flow, c.sift.auto.flow)) (omega (arith, verdicts, c.sift.auto.verdicts)) key keyed;
         text = refl;
       };
-      placed = c.put-parts.ensures;
+      placed = c.put_parts.ensures;
     }

@@ -10,8 +10,8 @@ use Rattle.numbering.proofs.Flowed.{job_is_told, refused, flowed}
 use Rattle.numbering.proofs.Rejoined.{rejoined_is}
 use Rattle.numbering.proofs.flow.numbering_flow.Goals as goal
 
-pub overflow-add-lines : goal.overflow-add-lines
-overflow-add-lines c = omega (arith, c.lines-lines.ensures, (limits_of c.args.series.now).count)
+pub overflow_add-lines : goal.overflow_add-lines
+overflow_add-lines c = omega (arith, c.lines-lines.ensures, (limits_of c.args.series.now).count)
 
 pub returns-then-numbering-parts : goal.returns-then-numbering-parts
 returns-then-numbering-parts c =
@@ -21,20 +21,20 @@ returns-then-numbering-parts c =
       told = job_is_told (job_of series) c.args.lo c.args.hi (held series);
     }
 
-pub returns-in-err-judge : goal.returns-in-err-judge
-returns-in-err-judge c =
+pub returns-in_err-judge : goal.returns-in_err-judge
+returns-in_err-judge c =
     let series = c.args.series.now in
     let numbering = c.args.numbering.now in
     let flow = c.args.flow.now in
     let p = err_from_is_err_and c.from-residual.result c.from-residual.ensures.1 in
     let enough : TooShort (job_of series) numbering flow → ⊥ = ⊎_elim (λ h. omega (arith, h, c.parts-parts.ensures)) (λ h. omega (arith, h, c.lines-lines.ensures, size_is (job_of series))) in
     rw (p.1, p.2) (record {
-      flows = refused (job_of series) c.args.lo c.args.hi (held series) numbering flow enough c.in-err-judge.field-0.0 (omega (arith, c.parts-parts.ensures)) c.in-err-judge.ensures;
+      flows = refused (job_of series) c.args.lo c.args.hi (held series) numbering flow enough c.in_err-judge.field-0.0 (omega (arith, c.parts-parts.ensures)) c.in_err-judge.ensures;
       told = job_is_told (job_of series) c.args.lo c.args.hi (held series);
     })
 
-pub write-amounts-requires : goal.write-amounts-requires
-write-amounts-requires c =
+pub write_amounts-requires : goal.write_amounts-requires
+write_amounts-requires c =
     let series = c.args.series.now in
     let parts : c.parts-parts.result - 0 ≡ part_count (job_of series) = omega (arith, c.parts-parts.ensures) in
     let lines : c.lines-lines.result + 1 - 0 ≡ line_count (job_of series) + 1 = omega (arith, c.lines-lines.ensures, size_is (job_of series)) in
@@ -52,8 +52,8 @@ returns c =
     let parts : c.parts-parts.result - 0 ≡ part_count job = omega (arith, c.parts-parts.ensures) in
     let lines : c.lines-lines.result + 1 ≡ line_count job + 1 = omega (arith, c.lines-lines.ensures, size_is job) in
     let enough : TooShort job numbering flow → ⊥ = ⊎_elim (λ h. omega (arith, h, c.parts-parts.ensures)) (λ h. omega (arith, h, c.lines-lines.ensures, size_is job)) in
-    let front : c.write-amounts.new.flow ≡ flow_of job (take (part_count job) numbering) = c.write-amounts.ensures ∙ ap (λ n. flow_of job (take n numbering)) parts in
+    let front : c.write_amounts.new.flow ≡ flow_of job (take (part_count job) numbering) = c.write_amounts.ensures ∙ ap (λ n. flow_of job (take n numbering)) parts in
     record {
-      flows = flowed job c.args.lo c.args.hi (held series) numbering flow enough _ (c.in-ok-judge.ensures.told (omega (arith, c.parts-parts.ensures))) (rejoined_is c.write-amounts.new.flow (flow_of job (take (part_count job) numbering)) flow (c.lines-lines.result + 1) (line_count job + 1) front lines);
+      flows = flowed job c.args.lo c.args.hi (held series) numbering flow enough _ (c.in_ok-judge.ensures.told (omega (arith, c.parts-parts.ensures))) (rejoined_is c.write_amounts.new.flow (flow_of job (take (part_count job) numbering)) flow (c.lines-lines.result + 1) (line_count job + 1) front lines);
       told = job_is_told job c.args.lo c.args.hi (held series);
     }

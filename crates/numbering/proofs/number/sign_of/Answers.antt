@@ -10,7 +10,7 @@ returns-then-carried-gt0 g c =
     let key = g.L.Legend.key c.args.legend.now in
     let flow = c.args.flow.now in
     let sign = c.loop-sign.sign in
-    let amount : c.carried.result ≡ over_line flow (key.pair_line c.args.part sign) = c.carried.ensures ∙ ap (over_line flow) c.pair-line.ensures in
+    let amount : c.carried.result ≡ over_line flow (key.pair_line c.args.part sign) = c.carried.ensures ∙ ap (over_line flow) c.pair_line.ensures in
     sym (lowest_found key.signs (λ s. ltb 0 (over_line flow (key.pair_line c.args.part s))) unsigned sign (omega (arith, c.signs-sign-end.ensures)) (lt-ltb 0 (over_line flow (key.pair_line c.args.part sign)) (omega (arith, amount))) c.loop-sign.invariant)
 
 pub returns : goal.returns

@@ -9,4 +9,4 @@ loop-done-smaller c = omega (arith, c.loop-done-test.true, c.len.ensures, front_
 pub loop-done-preserved : goal.loop-done-preserved
 loop-done-preserved c =
     spreading_more c.requires.ground.limits c.loop-done.invariant (omega (arith, c.loop-done-test.true, c.len.ensures)) c.visit.ensures.front
-    c.visit.ensures.grown (subst (Finished _ _ _) c.node-at-node.ensures c.visit.ensures.finished)
+    c.visit.ensures.grown (subst (Finished _ _ _) c.node_at-node.ensures c.visit.ensures.finished)

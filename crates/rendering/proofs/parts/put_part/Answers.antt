@@ -14,10 +14,10 @@ returns g c =
     let signs = in_order (length l.texts) (sign_text l t p) in
     let text = c.args.text.now in
     let at = c.args.at in
-    let spaced = placed_then {xs = name} {ys = 32 ∷ []} c.put-name-behind-name.ensures.placed c.put-byte-behind-space.ensures in
-    let marked = subst (λ m. Placed text at (name ++ (32 ∷ []) ++ (m ∷ [])) c.put-byte-behind-mark.new.text c.put-byte-behind-mark.result) c.mark.ensures (placed_then {xs = name ++ (32 ∷ [])} {ys = c.mark.result ∷ []} spaced c.put-byte-behind-mark.ensures) in
-    let shown = placed_then {xs = name ++ (32 ∷ []) ++ (mark t p ∷ [])} {ys = signs} marked c.put-signs-behind-signs.ensures.placed in
+    let spaced = placed_then {xs = name} {ys = 32 ∷ []} c.put_name-behind_name.ensures.placed c.put_byte-behind_space.ensures in
+    let marked = subst (λ m. Placed text at (name ++ (32 ∷ []) ++ (m ∷ [])) c.put_byte-behind_mark.new.text c.put_byte-behind_mark.result) c.mark.ensures (placed_then {xs = name ++ (32 ∷ [])} {ys = c.mark.result ∷ []} spaced c.put_byte-behind_mark.ensures) in
+    let shown = placed_then {xs = name ++ (32 ∷ []) ++ (mark t p ∷ [])} {ys = signs} marked c.put_signs-behind_signs.ensures.placed in
     record {
-      placed = placed_then {xs = name ++ (32 ∷ []) ++ (mark t p ∷ []) ++ signs} {ys = 10 ∷ []} shown c.put-byte.ensures;
-      bound = omega (arith, c.put-name-behind-name.ensures.bound, c.put-byte-behind-space.ensures.end, c.put-byte-behind-mark.ensures.end, c.put-signs-behind-signs.ensures.bound, c.put-byte.ensures.end, (g.B.Labels.small c.args.labels.now).signs);
+      placed = placed_then {xs = name ++ (32 ∷ []) ++ (mark t p ∷ []) ++ signs} {ys = 10 ∷ []} shown c.put_byte.ensures;
+      bound = omega (arith, c.put_name-behind_name.ensures.bound, c.put_byte-behind_space.ensures.end, c.put_byte-behind_mark.ensures.end, c.put_signs-behind_signs.ensures.bound, c.put_byte.ensures.end, (g.B.Labels.small c.args.labels.now).signs);
     }

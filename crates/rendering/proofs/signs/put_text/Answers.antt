@@ -10,7 +10,7 @@ put-requires g c =
     let s = c.args.sign in
     let is = told_label l.texts s c.in-Some.label.now c.requires.sign c.in-Some.ensures in
     let small = (g.B.Labels.small c.args.labels.now).texts s c.requires.sign in
-    omega (arith, ap length is, small, length_after c.put-byte-behind.ensures, c.requires.room, c.put-byte-behind.ensures.end)
+    omega (arith, ap length is, small, length_after c.put_byte-behind.ensures, c.requires.room, c.put_byte-behind.ensures.end)
 
 pub returns-in-Some : goal.returns-in-Some
 returns-in-Some g c =
@@ -19,8 +19,8 @@ returns-in-Some g c =
     let is = told_label l.texts s c.in-Some.label.now c.requires.sign c.in-Some.ensures in
     let small = (g.B.Labels.small c.args.labels.now).texts s c.requires.sign in
     record {
-      placed = subst (λ x. Placed c.args.text.now c.args.at (32 ∷ x) c.put.new.text c.put.result) (sym is) (placed_then c.put-byte-behind.ensures c.put.ensures);
-      bound = omega (arith, ap length is, small, c.put-byte-behind.ensures.end, c.put.ensures.end);
+      placed = subst (λ x. Placed c.args.text.now c.args.at (32 ∷ x) c.put.new.text c.put.result) (sym is) (placed_then c.put_byte-behind.ensures c.put.ensures);
+      bound = omega (arith, ap length is, small, c.put_byte-behind.ensures.end, c.put.ensures.end);
     }
 
 pub returns-in-None : goal.returns-in-None

@@ -5,4 +5,4 @@ use Rattle.series.proofs.load.kept_parts.Goals as goal
 
 pub loop-p-preserved : goal.loop-p-preserved
 loop-p-preserved c =
-    (simp length-set c.loop-p.invariant.0, mapped_more part_of c.loop-p.slots c.args.given.now c.loop-p.p no_record c.part-of.result (omega (arith, c.loop-p.invariant.0)) (omega arith) c.loop-p.invariant.1 c.part-of.ensures)
+    (simp length-set c.loop-p.invariant.0, mapped_more part_of c.loop-p.slots c.args.given.now c.loop-p.p no_record c.part_of.result (omega (arith, c.loop-p.invariant.0)) (omega arith) c.loop-p.invariant.1 c.part_of.ensures)

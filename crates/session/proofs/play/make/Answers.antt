@@ -36,8 +36,8 @@ returns-in-Sift g c =
     let m = g.N.Network.meaning c.args.layer.now.below in
     let es = entries_of c.args.layer.now.column in
     let b = c.in-Sift.buffers in
-    let s = c.sift-in-buffers.ensures in
-    let r = c.sift-in-buffers.result in
+    let s = c.sift_in-buffers.ensures in
+    let r = c.sift_in-buffers.result in
     let under = subst (λ n. Sifted n (held b) (held r.0) r.1) (standing_net m es c.requires) s in
     let logged = sifted m es es c.args.call b r.0 r.1 c.in-Sift.is refl under in
     record { below = refl; stands = c.requires; column = logged.column; answered = logged.answered }

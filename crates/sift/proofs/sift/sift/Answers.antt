@@ -7,7 +7,7 @@ use Rattle.sift.proofs.sift.sift.Goals as goal
 pub returns : goal.returns
 returns g c =
     let m = g.N.Network.meaning c.args.network.now in
-    let last = c.sift-exact.new in
+    let last = c.sift_exact.new in
     let n = c.nodes-n.result in
     let a = c.lines-a.result in
     let v : Workspace = record { flow = last.flow; verdicts = last.verdicts; bottleneck = last.bottleneck; marks = last.marks; nodes = last.nodes; steps = last.steps } in
@@ -32,4 +32,4 @@ returns g c =
       nodes = rest_kept n m.nodes v.nodes before.nodes (omega arith) en;
       steps = rest_kept n m.nodes v.steps before.steps (omega arith) en;
     } in
-    lifted m v w agree before enough kept c.sift-exact.result c.sift-exact.ensures
+    lifted m v w agree before enough kept c.sift_exact.result c.sift_exact.ensures

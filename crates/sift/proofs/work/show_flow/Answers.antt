@@ -9,6 +9,6 @@ returns c =
     let n = length c.args.marks.now in
     let g = net_of n c.args.lines.now in
     record {
-      accepted = accepted_exact g _ c.requires.lawful c.judge-lines.ensures.verdicts (c.blank.ensures ∙ resized 0 _ n c.requires.bottleneck);
-      cleared = cleared_exact g _ c.judge-lines.ensures.blank (c.blank-2.ensures ∙ resized 0 _ n (omega arith)) (c.blank-3.ensures ∙ resized no_step _ n c.requires.walk);
+      accepted = accepted_exact g _ c.requires.lawful c.judge_lines.ensures.verdicts (c.blank.ensures ∙ resized 0 _ n c.requires.bottleneck);
+      cleared = cleared_exact g _ c.judge_lines.ensures.blank (c.blank-2.ensures ∙ resized 0 _ n (omega arith)) (c.blank-3.ensures ∙ resized no_step _ n c.requires.walk);
     }

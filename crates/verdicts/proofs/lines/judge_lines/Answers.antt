@@ -11,8 +11,8 @@ pub loop-place-init : goal.loop-place-init
 loop-place-init c =
     record { blank = c.blank.ensures ∙ ap (λ n. replicate n 0) (sym c.blank.auto.marks); told = λ i h. absurd (omega arith) }
 
-pub judge-line-requires : goal.judge-line-requires
-judge-line-requires c =
+pub judge_line-requires : goal.judge_line-requires
+judge_line-requires c =
     let nodes = sym (c.loop-place.auto.marks ∙ c.blank.auto.marks) in
     record {
       ground =
@@ -30,13 +30,13 @@ judge-line-requires c =
 
 pub loop-place-preserved : goal.loop-place-preserved
 loop-place-preserved c =
-    let judged = c.judge-line.ensures in
+    let judged = c.judge_line.ensures in
     let g = net_of (length c.blank.new.marks) c.args.lines.now in
     record {
       blank = judged.blank ∙ ap (λ n. replicate n 0) c.loop-place.auto.marks;
       told =
-          told_more g c.args.flow.now c.loop-place.verdicts c.loop-place.place c.judge-line.result (omega arith)
-          (subst (λ n. Verdict (net_of n c.args.lines.now) c.args.flow.now c.loop-place.place c.judge-line.result)
+          told_more g c.args.flow.now c.loop-place.verdicts c.loop-place.place c.judge_line.result (omega arith)
+          (subst (λ n. Verdict (net_of n c.args.lines.now) c.args.flow.now c.loop-place.place c.judge_line.result)
           c.loop-place.auto.marks judged.verdict)
           c.loop-place.invariant.told;
     }

@@ -4,8 +4,8 @@ use Rattle.verdicts.specs.Search.{found, Answer, Ground}
 use Rattle.verdicts.proofs.Start.{cleared_all, fresh_start, start_unseen, answer_at_once, answer_of}
 use Rattle.verdicts.proofs.search.reaches.Goals as goal
 
-pub find-node-requires : goal.find-node-requires
-find-node-requires c =
+pub find_node-requires : goal.find_node-requires
+find_node-requires c =
     let fresh =
     fresh_start c.args.marks.now c.args.queue.now (found c.new-marked.result c.new-list.result) c.requires.queue
     c.new-marked.ensures.count c.new-marked.ensures.written c.new-list.ensures.kept c.new-list.ensures.empty in
@@ -20,17 +20,17 @@ returns-then-start-sought c =
     let fresh =
     fresh_start c.args.marks.now c.args.queue.now (found c.new-marked.result c.new-list.result) c.requires.queue
     c.new-marked.ensures.count c.new-marked.ensures.written c.new-list.ensures.kept c.new-list.ensures.empty in
-    let adds = c.find-node.ensures.adds in
+    let adds = c.find_node.ensures.adds in
     let blank : c.drop-marked.new.self.0 ≡ replicate (length c.args.marks.now) 0 =
     c.drop-marked.ensures ∙ cleared_all _ _ adds.listed.marks ∙ ap (λ n. replicate n 0) (adds.nodes ∙ fresh.nodes) in
     record { blank = search rules; answer = answer_at_once fresh c.args.start adds _ _ _ c.args.sought c.if-start-sought.true }
 
-pub visit-all-requires : goal.visit-all-requires
-visit-all-requires c =
+pub visit_all-requires : goal.visit_all-requires
+visit_all-requires c =
     let fresh =
     fresh_start c.args.marks.now c.args.queue.now (found c.new-marked.result c.new-list.result) c.requires.queue
     c.new-marked.ensures.count c.new-marked.ensures.written c.new-list.ensures.kept c.new-list.ensures.empty in
-    let adds = c.find-node.ensures.adds in
+    let adds = c.find_node.ensures.adds in
     record {
       ground =
           subst (λ n. Ground n c.args.lines.now c.args.starts.now c.args.index.now c.args.flow.now)
@@ -45,8 +45,8 @@ returns c =
     let fresh =
     fresh_start c.args.marks.now c.args.queue.now (found c.new-marked.result c.new-list.result) c.requires.queue
     c.new-marked.ensures.count c.new-marked.ensures.written c.new-list.ensures.kept c.new-list.ensures.empty in
-    let adds = c.find-node.ensures.adds in
-    let grows = c.visit-all.ensures.grows in
+    let adds = c.find_node.ensures.adds in
+    let grows = c.visit_all.ensures.grows in
     let nodes = adds.nodes ∙ fresh.nodes in
     let blank : c.drop-marked-2.new.self.0 ≡ replicate (length c.args.marks.now) 0 =
     c.drop-marked-2.ensures ∙ cleared_all _ _ grows.listed.marks ∙ ap (λ n. replicate n 0) (grows.nodes ∙ nodes) in
@@ -55,7 +55,7 @@ returns c =
       answer =
           subst
           (λ n.
-          Answer (net_of n c.args.lines.now) c.args.flow.now c.args.avoid c.args.start c.args.sought c.visit-all.result)
+          Answer (net_of n c.args.lines.now) c.args.flow.now c.args.avoid c.args.start c.args.sought c.visit_all.result)
           nodes
-          (answer_of fresh c.args.start adds grows c.args.sought c.visit-all.result c.visit-all.ensures.ends);
+          (answer_of fresh c.args.start adds grows c.args.sought c.visit_all.result c.visit_all.ensures.ends);
     }

@@ -6,8 +6,8 @@ use Rattle.verdicts.proofs.search.visit_all.Goals as goal
 pub loop-node-init : goal.loop-node-init
 loop-node-init c = (record { bytes = refl; cells = refl }, searching_none _ _ _ _ _ c.requires.listed c.requires.sought)
 
-pub visit-node-requires : goal.visit-node-requires
-visit-node-requires c =
+pub visit_node-requires : goal.visit_node-requires
+visit_node-requires c =
     let searching = c.loop-node.invariant.1 in
     let state = found c.loop-node.marks c.loop-node.list in
     let listed = searching.grows.listed in
@@ -21,11 +21,11 @@ visit-node-requires c =
       sought = searching.unseen;
     }
 
-pub returns-then-visit-node : goal.returns-then-visit-node
-returns-then-visit-node c =
+pub returns-then-visit_node : goal.returns-then-visit_node
+returns-then-visit_node c =
     let lent = c.loop-node.invariant.0 in
     let searching = c.loop-node.invariant.1 in
-    let visit = c.if-visit-node.ensures in
+    let visit = c.if-visit_node.ensures in
     record {
       marks = visit.marks ∙ lent.bytes;
       list = visit.list ∙ lent.cells;
@@ -34,8 +34,8 @@ returns-then-visit-node c =
     }
 
 -- the node that is read is one of the network
-pub overflow-add-read : goal.overflow-add-read
-overflow-add-read c =
+pub overflow_add-read : goal.overflow_add-read
+overflow_add-read c =
     let listed = c.loop-node.invariant.1.grows.listed in
     let read = read_some (found c.loop-node.marks c.loop-node.list) listed c.loop-node.read c.in-Some.node c.in-Some.ensures in
     omega (arith, read.0, listed_fits listed, c.loop-node.invariant.1.grows.nodes, c.requires.ground.limits.nodes)
@@ -52,7 +52,7 @@ loop-node-preserved c =
     let searching = c.loop-node.invariant.1 in
     let state = found c.loop-node.marks c.loop-node.list in
     let read = read_some state searching.grows.listed c.loop-node.read c.in-Some.node c.in-Some.ensures in
-    let visit = c.if-visit-node.ensures in (
+    let visit = c.if-visit_node.ensures in (
       record { bytes = visit.marks ∙ lent.bytes; cells = visit.list ∙ lent.cells },
       searching_more c.args.lines.now searching visit.grows c.in-Some.node read.0 read.1 visit.visits,
     )
@@ -69,6 +69,6 @@ returns c =
       ends = (
         searching.unseen,
         closed_by searching
-            (read_none state searching.grows.listed c.loop-node.read c.in-default.ensures),
+            (read_none state searching.grows.listed c.loop-node.read c.in_default.ensures),
       );
     }

@@ -6,7 +6,7 @@ use Rattle.verdicts.proofs.Found.{marked_inside}
 use Rattle.verdicts.proofs.Ground.{step_listed, step_leaves, step_line, step_amount, step_target}
 use Rattle.verdicts.proofs.Visit.{Underway, visiting_none, visiting_past, visiting_more, visit_grows, visit_finds, visited}
 use Rattle.verdicts.proofs.search.visit_node.Goals as goal
-use Rattle.verdicts.proofs.search.visit_node.Goals.{then-is-passable+else-next-sought, else-is-passable}
+use Rattle.verdicts.proofs.search.visit_node.Goals.{then-is-passable+else-next-sought, else-is_passable}
 
 pub loop-k-init : goal.loop-k-init
 loop-k-init c = (record { bytes = refl; cells = refl }, visiting_none c.requires.listed c.requires.sought)
@@ -15,8 +15,8 @@ pub bounds-index-k : goal.bounds-index-k
 bounds-index-k c =
     step_listed c.requires.ground c.args.node c.loop-k.k (marked_inside _ _ _ c.requires.node) c.loop-k.auto.k c.loop-k-test.true
 
-pub is-passable-requires : goal.is-passable-requires
-is-passable-requires c =
+pub is_passable-requires : goal.is_passable-requires
+is_passable-requires c =
     let inside = marked_inside _ _ _ c.requires.node in
     record {
       line = step_line c.requires.ground c.args.node c.loop-k.k inside c.loop-k.auto.k c.loop-k-test.true;
@@ -27,8 +27,8 @@ pub target-next-requires : goal.target-next-requires
 target-next-requires c =
     step_line c.requires.ground c.args.node c.loop-k.k (marked_inside _ _ _ c.requires.node) c.loop-k.auto.k c.loop-k-test.true
 
-pub find-node-requires : goal.find-node-requires
-find-node-requires c =
+pub find_node-requires : goal.find_node-requires
+find_node-requires c =
     let grows = c.loop-k.invariant.1.grows in
     let inside = marked_inside _ _ _ c.requires.node in
     let next = step_target c.requires.ground c.args.node c.loop-k.k inside c.loop-k.auto.k c.loop-k-test.true in
@@ -44,12 +44,12 @@ returns-then-next-sought c =
     let visiting = c.loop-k.invariant.1 in
     let inside = marked_inside _ _ _ c.requires.node in
     let leaves = step_leaves c.requires.ground c.args.node c.loop-k.k inside c.loop-k.auto.k c.loop-k-test.true in
-    let adds = c.find-node.ensures.adds in
+    let adds = c.find_node.ensures.adds in
     record {
-      marks = c.find-node.ensures.marks ∙ lent.bytes;
-      list = c.find-node.ensures.list ∙ lent.cells;
-      grows = visit_grows visiting leaves c.requires.node c.if-is-passable.ensures _ c.target-next.ensures adds;
-      visits = visit_finds visiting leaves c.requires.node c.if-is-passable.ensures _ c.target-next.ensures adds c.if-next-sought.true;
+      marks = c.find_node.ensures.marks ∙ lent.bytes;
+      list = c.find_node.ensures.list ∙ lent.cells;
+      grows = visit_grows visiting leaves c.requires.node c.if-is_passable.ensures _ c.target-next.ensures adds;
+      visits = visit_finds visiting leaves c.requires.node c.if-is_passable.ensures _ c.target-next.ensures adds c.if-next-sought.true;
     }
 
 pub loop-k-preserved : goal.loop-k-preserved
@@ -61,18 +61,18 @@ loop-k-preserved c =
     let visiting = c.loop-k.invariant.1 in
     let inside = marked_inside _ _ _ c.requires.node in
     let leaves = step_leaves c.requires.ground c.args.node c.loop-k.k inside c.loop-k.auto.k c.loop-k-test.true in
-    elim c.if-is-passable.branch [
+    elim c.if-is_passable.branch [
       | then-is-passable+else-next-sought w ↦
-          let found = w.find-node.ensures in
-          subst (λ m. Kept m c.if-is-passable.list) (sym w.marks-is)
-          (subst (Kept w.find-node.new.marks) (sym w.list-is) (
+          let found = w.find_node.ensures in
+          subst (λ m. Kept m c.if-is_passable.list) (sym w.marks-is)
+          (subst (Kept w.find_node.new.marks) (sym w.list-is) (
             record { bytes = found.marks ∙ lent.bytes; cells = found.list ∙ lent.cells },
-            visiting_more visiting leaves c.requires.node w.if-is-passable.ensures _ w.target-next.ensures found.adds
+            visiting_more visiting leaves c.requires.node w.if-is_passable.ensures _ w.target-next.ensures found.adds
                 w.if-next-sought.false,
           ))
-      | else-is-passable w ↦
-          subst (λ m. Kept m c.if-is-passable.list) (sym w.marks-is)
-          (subst (Kept c.loop-k.marks) (sym w.list-is) (lent, visiting_past visiting w.if-is-passable.ensures))
+      | else-is_passable w ↦
+          subst (λ m. Kept m c.if-is_passable.list) (sym w.marks-is)
+          (subst (Kept c.loop-k.marks) (sym w.list-is) (lent, visiting_past visiting w.if-is_passable.ensures))
     ]
 
 pub returns : goal.returns

@@ -9,4 +9,4 @@ loop-b-preserved c =
     let file = c.args.self.now.file.now in
     let b = c.loop-b.b in
     let long : length (left_from file b) ≡ length (acts_in file (b - acts_from file)) + length (left_from file (b + 1)) = ap length (left_next file b c.loop-b.invariant.0 (omega arith)) ∙ length-append (acts_in file (b - acts_from file)) (left_from file (b + 1)) in
-    (omega arith, omega (arith, c.records-in-count.ensures.small), omega (arith, long, acts_long file b c.loop-b.invariant.0, c.records-in-count.ensures.is, c.loop-b.invariant.2))
+    (omega arith, omega (arith, c.records_in-count.ensures.small), omega (arith, long, acts_long file b c.loop-b.invariant.0, c.records_in-count.ensures.is, c.loop-b.invariant.2))

@@ -7,7 +7,7 @@ use Rattle.jobfile.proofs.file.JobFile.copy_parts.Goals as goal
 
 pub loop-p-preserved : goal.loop-p-preserved
 loop-p-preserved c =
-    copied_more (λ p. part_from (record_at c.args.self.now.file.now parts_start p)) c.args.parts.now c.loop-p.parts c.loop-p.p c.part-of.result (omega arith) (c.part-of.ensures ∙ ap part_from c.record-at.ensures) c.loop-p.invariant
+    copied_more (λ p. part_from (record_at c.args.self.now.file.now parts_start p)) c.args.parts.now c.loop-p.parts c.loop-p.p c.part_of.result (omega arith) (c.part_of.ensures ∙ ap part_from c.record_at.ensures) c.loop-p.invariant
 
 pub returns : goal.returns
 returns c =

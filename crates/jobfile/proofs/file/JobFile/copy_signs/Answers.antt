@@ -8,8 +8,8 @@ use Rattle.jobfile.proofs.file.JobFile.copy_signs.Goals as goal
 pub loop-s-preserved : goal.loop-s-preserved
 loop-s-preserved c =
     let file = c.args.self.now.file.now in
-    let start = c.signs-start-start.ensures ∙ ap signs_start c.part-count.ensures in
-    copied_more (λ s. sign_from (record_at file (signs_start (parts_in file)) s)) c.args.signs.now c.loop-s.signs c.loop-s.s c.sign-of.result (omega arith) (c.sign-of.ensures ∙ ap sign_from (c.record-at.ensures ∙ ap (λ (k : ℕ). record_at file k c.loop-s.s) start)) c.loop-s.invariant
+    let start = c.signs_start-start.ensures ∙ ap signs_start c.part_count.ensures in
+    copied_more (λ s. sign_from (record_at file (signs_start (parts_in file)) s)) c.args.signs.now c.loop-s.signs c.loop-s.s c.sign_of.result (omega arith) (c.sign_of.ensures ∙ ap sign_from (c.record_at.ensures ∙ ap (λ (k : ℕ). record_at file k c.loop-s.s) start)) c.loop-s.invariant
 
 pub returns : goal.returns
 returns c =

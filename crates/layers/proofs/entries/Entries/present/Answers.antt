@@ -2,8 +2,8 @@ use Rattle.layers.specs.Column.{entries_of}
 use Rattle.layers.specs.Under.{none_asked, some_asked, left_told}
 use Rattle.layers.proofs.entries.Entries.present.Goals as goal
 
-pub returns-in-default : goal.returns-in-default
-returns-in-default g c = none_asked (g.N.Network.meaning c.args.self.now.below) c.args.place c.in-default.ensures
+pub returns-in_default : goal.returns-in_default
+returns-in_default g c = none_asked (g.N.Network.meaning c.args.self.now.below) c.args.place c.in_default.ensures
 
 pub returns : goal.returns
 returns g c =

@@ -3,12 +3,12 @@ use Rattle.std.proofs.lemmas.List.{length-take}
 use Rattle.network.proofs.Records.{size_is}
 use Rattle.listed.proofs.lent.Listed.load.Goals as goal
 
-pub invariant-of-self : goal.invariant-of-self
-invariant-of-self c =
+pub invariant_of-self : goal.invariant_of-self
+invariant_of-self c =
     let nodes = c.args.nodes in
     let held = take (c.args.count - 0) c.args.records.now in
     let long = length-take (c.args.count - 0) c.args.records.now in
-    let fit = c.in-default.ensures in (
+    let fit = c.in_default.ensures in (
       omega arith,
       (omega (arith, size_is nodes held), (λ k h. (fit k h).tail, (λ k h. (fit k h).head, (λ k h. (fit k h).ordered, (λ k h. (fit k h).small, tt))))),
     )

@@ -3,10 +3,10 @@ use Rattle.layers.specs.Closing.{standing_last}
 use Rattle.layers.specs.Last.{inside_told, other_told, here_told}
 use Rattle.layers.proofs.closing.answers.ClosingNetwork.line.Goals as goal
 
-pub returns-then-is-some : goal.returns-then-is-some
-returns-then-is-some g c =
+pub returns-then-is_some : goal.returns-then-is_some
+returns-then-is_some g c =
     let below = g.N.Network.meaning c.args.self.now.below in
-    let some = sym (c.is-some.ensures ∙ ap is_some c.line-inside.ensures) ∙ c.if-is-some.true in
+    let some = sym (c.is_some.ensures ∙ ap is_some c.line-inside.ensures) ∙ c.if-is_some.true in
     c.line-inside.ensures ∙ sym (inside_told below (standing_last below c.args.self.now.last) c.args.place some)
 
 pub returns-then-place-lines : goal.returns-then-place-lines
@@ -18,10 +18,10 @@ pub returns : goal.returns
 returns g c =
     let below = g.N.Network.meaning c.args.self.now.below in
     let here = c.if-place-lines.false ∙ c.lines-lines.ensures in
-    here_told below (standing_last below c.args.self.now.last) (Some c.in-ok-last.last) c.args.place (sym c.in-ok-last.was ∙ c.standing.ensures) here
+    here_told below (standing_last below c.args.self.now.last) (Some c.in_ok-last.last) c.args.place (sym c.in_ok-last.was ∙ c.standing.ensures) here
 
-pub returns-in-err-last : goal.returns-in-err-last
-returns-in-err-last g c =
+pub returns-in_err-last : goal.returns-in_err-last
+returns-in_err-last g c =
     let below = g.N.Network.meaning c.args.self.now.below in
     let here = c.if-place-lines.false ∙ c.lines-lines.ensures in
-    c.from-residual.ensures ∙ here_told below (standing_last below c.args.self.now.last) None c.args.place (sym c.in-err-last.was ∙ c.standing.ensures) here
+    c.from-residual.ensures ∙ here_told below (standing_last below c.args.self.now.last) None c.args.place (sym c.in_err-last.was ∙ c.standing.ensures) here
