@@ -5,6 +5,6 @@ use Rattle.jobfile.proofs.read.read.Goals as goal
 
 pub returns-in_err--network : goal.returns-in_err--network
 returns-in_err--network c =
-    let p = err_from_is_err_and c.from-residual-in_err--network.result c.from-residual-in_err--network.ensures.1 in
+    let p = err_from_is_err_and c.from_residual-in_err--network.result c.from_residual-in_err--network.ensures.1 in
     let found = c.in_ok-job.ensures in
     rw (p.1, p.2) (inr (found.2, found.3, subst (λ (f : List ℕ). NetRefused f c.in_err--network.field-0.0) found.0 c.in_err--network.ensures), refl, refl)

@@ -26,7 +26,7 @@ returns-in_err-judge c =
     let series = c.args.series.now in
     let numbering = c.args.numbering.now in
     let flow = c.args.flow.now in
-    let p = err_from_is_err_and c.from-residual.result c.from-residual.ensures.1 in
+    let p = err_from_is_err_and c.from_residual.result c.from_residual.ensures.1 in
     let enough : TooShort (job_of series) numbering flow → ⊥ = ⊎_elim (λ h. omega (arith, h, c.parts-parts.ensures)) (λ h. omega (arith, h, c.lines-lines.ensures, size_is (job_of series))) in
     rw (p.1, p.2) (record {
       flows = refused (job_of series) c.args.lo c.args.hi (held series) numbering flow enough c.in_err-judge.field-0.0 (omega (arith, c.parts-parts.ensures)) c.in_err-judge.ensures;

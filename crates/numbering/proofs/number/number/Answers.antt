@@ -17,7 +17,7 @@ returns-in_err-sift g c =
     let last = c.sift.new in
     let after : Workspace = record { flow = last.flow; verdicts = last.verdicts; bottleneck = last.bottleneck; marks = last.marks; nodes = last.nodes; steps = last.steps } in
     let e = c.in_err-sift.field-0.0 in
-    let p = err_from_is_err_and c.from-residual.result c.from-residual.ensures.1 in
+    let p = err_from_is_err_and c.from_residual.result c.from_residual.ensures.1 in
     let numbers : Numbers m key before after bytes bytes (Err e) = passed_on m key before after bytes e (omega (arith, c.parts-parts.ensures)) c.in_err-sift.ensures in
     rw (p.1, p.2) (record { numbers = numbers; jobs = numbers_jobs m key before after bytes bytes (Err e) numbers })
 

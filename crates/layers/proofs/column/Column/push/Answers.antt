@@ -12,4 +12,4 @@ pub invariant_of-self : goal.invariant_of-self
 invariant_of-self c =
     let column = c.args.self.now in
     let marked = marked_more column.named column.entries column.count c.args.entry c.with_bit.result c.with_bit.ensures (omega (arith, c.requires, column.words)) (omega (arith, c.requires, column.whole, column.fits, length-take column.count column.entries)) column.marked in
-    (search rules, (search rules, (search rules, (marked, tt))))
+    record { whole = search rules; fits = search rules; words = search rules; marked = marked }

@@ -8,7 +8,12 @@ invariant_of-self c =
     let nodes = c.args.nodes in
     let held = take (c.args.count - 0) c.args.records.now in
     let long = length-take (c.args.count - 0) c.args.records.now in
-    let fit = c.in_default.ensures in (
-      omega arith,
-      (omega (arith, size_is nodes held), (λ k h. (fit k h).tail, (λ k h. (fit k h).head, (λ k h. (fit k h).ordered, (λ k h. (fit k h).small, tt))))),
-    )
+    let fit = c.in_default.ensures in
+    record {
+      narrow = omega arith;
+      short = omega (arith, size_is nodes held);
+      tails = λ k h. (fit k h).tail;
+      heads = λ k h. (fit k h).head;
+      ordered = λ k h. (fit k h).ordered;
+      small = λ k h. (fit k h).small;
+    }

@@ -24,4 +24,4 @@ pub returns-in_err-last : goal.returns-in_err-last
 returns-in_err-last g c =
     let below = g.N.Network.meaning c.args.self.now.below in
     let here = c.if-place-lines.false ∙ c.lines-lines.ensures in
-    c.from-residual.ensures ∙ here_told below (standing_last below c.args.self.now.last) None c.args.place (sym c.in_err-last.was ∙ c.standing.ensures) here
+    c.from_residual.ensures ∙ here_told below (standing_last below c.args.self.now.last) None c.args.place (sym c.in_err-last.was ∙ c.standing.ensures) here

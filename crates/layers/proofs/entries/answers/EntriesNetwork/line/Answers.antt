@@ -9,7 +9,7 @@ returns-in_err-tail g c =
     let x = c.args.self.now in
     let below = g.N.Network.meaning x.below in
     let beyond = none_asked below c.args.place c.in_err-tail.ensures in
-    c.from-residual.ensures ∙ sym (bounded_beyond below (bounds_under below (entries_of x.column)) c.args.place beyond)
+    c.from_residual.ensures ∙ sym (bounded_beyond below (bounds_under below (entries_of x.column)) c.args.place beyond)
 
 pub returns : goal.returns
 returns g c =

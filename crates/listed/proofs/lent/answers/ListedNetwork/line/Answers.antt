@@ -6,9 +6,9 @@ use Rattle.listed.proofs.lent.answers.ListedNetwork.line.Goals as goal
 pub returns-in_err-line : goal.returns-in_err-line
 returns-in_err-line c =
     let records = c.args.self.now.records.now in
-    let none = c.in_err-line.ensures.finds.0 in
+    let none = c.in_err-line.ensures.lookup.0 in
     let past : length records ≤ c.args.place = grind (arith, nat_tests) in
-    c.from-residual.ensures ∙ sym (told_past records c.args.place past)
+    c.from_residual.ensures ∙ sym (told_past records c.args.place past)
 
 pub returns : goal.returns
 returns c =
