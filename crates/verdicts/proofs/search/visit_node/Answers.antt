@@ -6,7 +6,7 @@ use Rattle.verdicts.proofs.Found.{marked_inside}
 use Rattle.verdicts.proofs.Ground.{step_listed, step_leaves, step_line, step_amount, step_target}
 use Rattle.verdicts.proofs.Visit.{Underway, visiting_none, visiting_past, visiting_more, visit_grows, visit_finds, visited}
 use Rattle.verdicts.proofs.search.visit_node.Goals as goal
-use Rattle.verdicts.proofs.search.visit_node.Goals.{then-is-passable+else-next-sought, else-is_passable}
+use Rattle.verdicts.proofs.search.visit_node.Goals.{then-is_passable+else-next-sought, else-is_passable}
 
 pub loop-k-init : goal.loop-k-init
 loop-k-init c = (record { bytes = refl; cells = refl }, visiting_none c.requires.listed c.requires.sought)
@@ -62,7 +62,7 @@ loop-k-preserved c =
     let inside = marked_inside _ _ _ c.requires.node in
     let leaves = step_leaves c.requires.ground c.args.node c.loop-k.k inside c.loop-k.auto.k c.loop-k-test.true in
     elim c.if-is_passable.branch [
-      | then-is-passable+else-next-sought w ↦
+      | then-is_passable+else-next-sought w ↦
           let found = w.find_node.ensures in
           subst (λ m. Kept m c.if-is_passable.list) (sym w.marks-is)
           (subst (Kept w.find_node.new.marks) (sym w.list-is) (
