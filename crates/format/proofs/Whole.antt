@@ -19,7 +19,7 @@ use Rattle.jobfile.specs.Format.{FileFor, FileOf}
 use Rattle.jobfile.proofs.Files.{expects_part, expects_sign}
 use Rattle.format.specs.Theorems.{Bytes, GoodLabel, Writable}
 use Rattle.format.proofs.Same.{part_at_byte}
-use Rattle.format.proofs.Written.{Given, digit, labelByte, headByte, partByte, signByte, head-written, part-written, sign-written}
+use Rattle.format.proofs.Written.{Given, digit, label_byte, head_byte, part_byte, sign_byte, head_written, part_written, sign_written}
 use Rattle.format.proofs.Blocks.{block_byte, block_written, record_given, record_long, block_small}
 
 -- Bytes of labels and records are bytes.

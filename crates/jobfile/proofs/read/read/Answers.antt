@@ -3,8 +3,8 @@ use Rattle.std.proofs.lemmas.Result.{err_from_is_err_and}
 use Rattle.jobfile.specs.Reading.{NetRefused}
 use Rattle.jobfile.proofs.read.read.Goals as goal
 
-pub returns-in_err--network : goal.returns-in_err--network
-returns-in_err--network c =
-    let p = err_from_is_err_and c.from_residual-in_err--network.result c.from_residual-in_err--network.ensures.1 in
+pub returns-in_err-_network : goal.returns-in_err-_network
+returns-in_err-_network c =
+    let p = err_from_is_err_and c.from_residual-in_err-_network.result c.from_residual-in_err-_network.ensures.1 in
     let found = c.in_ok-job.ensures in
-    rw (p.1, p.2) (inr (found.2, found.3, subst (λ (f : List ℕ). NetRefused f c.in_err--network.field-0.0) found.0 c.in_err--network.ensures), refl, refl)
+    rw (p.1, p.2) (inr (found.2, found.3, subst (λ (f : List ℕ). NetRefused f c.in_err-_network.field-0.0) found.0 c.in_err-_network.ensures), refl, refl)

@@ -23,7 +23,7 @@ returns-in-Ok g c =
     let keyed = g.met.L.Legend.keyed c.args.legend.now in
     let t = table_of key last.flow last.verdicts in
     record {
-      enough = ⊎_elim (λ lt. omega (arith, lt, c.if-text-lt-LISTING-TEXT.false)) (not_from_Decides _ c.is_short.ensures c.if-is_short.false);
+      enough = ⊎_elim (λ lt. omega (arith, lt, c.if-text-lt-LISTING_TEXT.false)) (not_from_Decides _ c.is_short.ensures c.if-is_short.false);
       sifted = ran;
       bytes = render l t;
       lists = record {

@@ -4,8 +4,8 @@ use Rattle.layout.specs.Places.{name_at, text_at, parts_in, signs_in}
 use Rattle.jobfile.proofs.Listed.{nth_inside, nth_outside}
 use Rattle.jobfile.proofs.labels.JobFileLabels.name.Goals as goal
 
-pub returns-then-part_at-most-64 : goal.returns-then-part_at-most-64
-returns-then-part_at-most-64 c =
+pub returns-then-part-at_most_64 : goal.returns-then-part-at_most_64
+returns-then-part-at_most_64 c =
     let file = c.args.self.now.file.now in
     sym (nth_outside (name_at file) (min 64 (parts_in file)) c.args.part (omega arith))
 

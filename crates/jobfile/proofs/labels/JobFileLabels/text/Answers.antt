@@ -4,8 +4,8 @@ use Rattle.layout.specs.Places.{signs_start, record_at, name_at, text_at, parts_
 use Rattle.jobfile.proofs.Listed.{nth_inside, nth_outside}
 use Rattle.jobfile.proofs.labels.JobFileLabels.text.Goals as goal
 
-pub returns-then-sign_at-most-64 : goal.returns-then-sign_at-most-64
-returns-then-sign_at-most-64 c =
+pub returns-then-sign-at_most_64 : goal.returns-then-sign-at_most_64
+returns-then-sign-at_most_64 c =
     let file = c.args.self.now.file.now in
     sym (nth_outside (text_at file (parts_in file)) (min 64 (signs_in file)) c.args.sign (omega arith))
 
