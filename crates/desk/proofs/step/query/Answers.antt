@@ -9,8 +9,8 @@ use Rattle.desk.specs.Transcript.{query_text}
 use Rattle.desk.proofs.Stepping.{appended_then, steps_from, queried, finds_refusal}
 use Rattle.desk.proofs.step.query.Goals as goal
 
-pub returns-in_ok-append_accepted : goal.returns-in_ok-append_accepted
-returns-in_ok-append_accepted g c =
+pub returns-in_ok-append_accepted-in-Ok : goal.returns-in_ok-append_accepted-in-Ok
+returns-in_ok-append_accepted-in-Ok g c =
     let layer = c.args.layer.now in
     let m = g.L.Network.meaning layer.below in
     let key = g.L.Legend.key layer.below in
@@ -23,7 +23,7 @@ returns-in_ok-append_accepted g c =
     let r = c.append_front.result in
     let w = c.in-Ok.ensures in
     let listed = subst (λ xs. Appended mid then xs r) (placed_front w.placed) c.append_front.ensures in
-    let appended = appended_then so_far mid then (accepted_line number) w.bytes r c.in_ok-append_accepted.ensures listed in
+    let appended = appended_then so_far mid then (accepted_line number) w.bytes r c.in_ok-append_accepted-in-Ok.ensures listed in
     steps_from m key l number None es es so_far then (query_text number (Ok w.bytes)) r appended (queried m key l number es c.requires (Ok w.bytes) w.finds) refl c.requires
 
 pub returns-in-Err : goal.returns-in-Err

@@ -28,7 +28,7 @@ pub loop-k-preserved : goal.loop-k-preserved
 loop-k-preserved c =
     let acts = acts_of c.args.job.now.file.now in
     let inside : c.loop-k.k < length acts = omega (arith, c.act_count-k-end.ensures) in
-    pushed (c.in-Some.act ∷ []) c.loop-k.invariant c.in_ok-push.was c.push.ensures.items ∙ take_next acts c.loop-k.k c.in-Some.act inside (c.in-Some.ensures c.requires)
+    pushed (c.in-Some.act ∷ []) c.loop-k.invariant c.in_ok-push-in-Some.was c.push.ensures.items ∙ take_next acts c.loop-k.k c.in-Some.act inside (c.in-Some.ensures c.requires)
 
 pub returns : goal.returns
 returns c =
