@@ -1,7 +1,6 @@
 -- An act on the layer is a call of the reference log.
-use Rattle.std.proofs.Common.{◌≡◌, List, Result, sym, refl, ap, ◌∙◌, subst}
-use Rattle.network.specs.Net.{Net, size}
-use Rattle.layers.specs.Entries.{Lays, Undoes, bounds_under}
+use Rattle.std.proofs.Common.{◌≡◌, List, Result, sym, ap, ◌∙◌, subst}
+use Rattle.network.specs.Net.{Net}
 use Rattle.layers.specs.Present.{Standing}
 use Rattle.layers.specs.declared.entry.Entry.{Entry}
 use Rattle.layers.proofs.Standing.{lays_standing, undoes_standing}

@@ -1,12 +1,12 @@
 -- Cursors that go on.
-use Rattle.std.proofs.Common.{◌≡◌, ℕ, ◌+◌, ◌-◌, ◌<◌, ◌≤◌, List, length, get_or, set, sym, refl, ap, ◌∙◌, subst, inl, inr, arith}
+use Rattle.std.proofs.Common.{◌≡◌, ℕ, ◌+◌, ◌-◌, ◌<◌, ◌≤◌, List, length, set, sym, ap, ◌∙◌, subst, inl, inr, arith}
 use Rattle.std.proofs.lemmas.List.{length-set, get_or-set_same, get_or-set_other}
 use Rattle.std.proofs.lemmas.Bool.{cases_eq, cases_lt}
 use Rattle.network.specs.Net.{Net}
 use Rattle.flows.proofs.Sums.{upto_change}
 use Rattle.index.specs.Rows.{Indexed, start, step_at}
 use Rattle.index.specs.declared.step.Step.{Step}
-use Rattle.reach.specs.Levels.{Near, Down, LeadsDown, Levelled}
+use Rattle.reach.specs.Levels.{LeadsDown, Levelled}
 use Rattle.reach.proofs.Steps.{row_ascends}
 use Rattle.augment.specs.Cursors.{place, row_end, Cursors, ahead, DownFrom, Fresh, Sought}
 

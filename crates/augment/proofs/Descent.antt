@@ -1,8 +1,8 @@
 -- A walk under way: a step down, a step back, and why it ends.
-use Rattle.std.proofs.Common.{◌≡◌, ℕ, ◌+◌, ◌-◌, ◌*◌, ◌<◌, ◌≤◌, List, length, set, Some, None, sym, refl, ap, ◌∙◌, subst, arith}
-use Rattle.network.specs.Net.{Net, Limits, size}
+use Rattle.std.proofs.Common.{◌≡◌, ℕ, ◌+◌, ◌-◌, ◌*◌, ◌<◌, ◌≤◌, List, length, set, Some, None, sym, ap, ◌∙◌, subst, arith}
+use Rattle.network.specs.Net.{Net, size}
 use Rattle.network.specs.Flow.{at}
-use Rattle.index.specs.Rows.{Leaves, start, step_at}
+use Rattle.index.specs.Rows.{Leaves, step_at}
 use Rattle.index.specs.Steps.{origin, target}
 use Rattle.index.specs.declared.step.Step.{Step}
 use Rattle.reach.specs.Levels.{Ground, level, Near, LeadsDown}

@@ -1,6 +1,5 @@
 -- Pushing along a walk, step by step and whole.
-use Rattle.std.proofs.Common.{◌≡◌, ℕ, ◌+◌, ◌-◌, ◌<◌, ◌≤◌, true, false, List, length, set, sym, refl, ap, ◌∙◌, subst, arith, below_more}
-use Rattle.std.specs.List.{AllByRecursion as All}
+use Rattle.std.proofs.Common.{◌≡◌, ℕ, ◌+◌, ◌-◌, ◌<◌, ◌≤◌, true, false, List, length, set, sym, ap, ◌∙◌, subst, arith, below_more}
 use Rattle.std.proofs.lemmas.List.{get_or-set_same}
 use Rattle.network.specs.Net.{Net, size}
 use Rattle.network.specs.Flow.{at}
@@ -13,7 +12,7 @@ use Rattle.index.specs.Rows.{step_at}
 use Rattle.index.specs.declared.step.Step.{Step}
 use Rattle.reach.specs.Room.{step_of, room_of}
 use Rattle.augment.specs.Walks.{trodden}
-use Rattle.augment.specs.Pushes.{Narrowest, Passable, Pushed, total}
+use Rattle.augment.specs.Pushes.{Narrowest, Passable, Pushed}
 use Rattle.augment.proofs.Room.{has_room, room_from}
 
 -- a bound on the line of a step, at the step as it was read

@@ -1,8 +1,8 @@
 -- Walks downhill: one step more, and one step back.
-use Rattle.std.proofs.Common.{◌≡◌, ℕ, zero, suc, ◌+◌, ◌-◌, ◌<◌, ◌≤◌, Bool, true, false, cond, eqb, List, [], ◌∷◌, length, get_or, set, sym, refl, ap, ◌∙◌, subst, inl, inr, arith}
+use Rattle.std.proofs.Common.{◌≡◌, ℕ, zero, suc, ◌+◌, ◌-◌, ◌<◌, Bool, true, false, cond, eqb, List, [], ◌∷◌, length, set, sym, refl, ap, ◌∙◌, subst, arith}
 use Rattle.std.specs.List.{AllByRecursion as All}
 use Rattle.std.proofs.lemmas.List.{length-set, get_or-set_same, get_or-set_other}
-use Rattle.network.specs.Net.{Net, Limits, size, line, tail, head}
+use Rattle.network.specs.Net.{Net, Limits, size}
 use Rattle.flows.specs.Bounds.{Within}
 use Rattle.flows.specs.Steps as flows
 use Rattle.flows.specs.Trails.{Joined, Downhill, Trail}

@@ -1,5 +1,5 @@
 -- The weighted sum of a block's bytes, one byte more, and its bound.
-use Rattle.std.proofs.Common.{◌≡◌, ℕ, ◌+◌, ◌*◌, ◌%◌, ◌<◌, ◌≤◌, List, refl, ap, arith}
+use Rattle.std.proofs.Common.{◌≡◌, ℕ, ◌+◌, ◌*◌, ◌%◌, ◌<◌, ◌≤◌, List, refl, arith}
 use Rattle.std.proofs.lemmas.Nat.{mul-le}
 use Rattle.network.proofs.Counting.{upto_more}
 use Rattle.blocks.specs.Bytes.{byte_at}

@@ -1,5 +1,5 @@
 -- What it is for bytes to be a block of a job file.
-use Rattle.std.specs.Prelude.{◌≡◌, ℕ, ◌+◌, ◌*◌, ◌%◌, ◌<◌, ◌≤◌, List, length}
+use Rattle.std.specs.Prelude.{◌≡◌, ℕ, ◌+◌, ◌*◌, ◌%◌, ◌≤◌, List, length}
 use Rattle.network.specs.Sum.{upto}
 use Rattle.blocks.specs.Bytes.{byte_at, number_at, Zeros, part_at}
 

@@ -1,5 +1,5 @@
 -- What a list over lent places holds, in terms of the places and of how many of them are in use.
-use Rattle.std.specs.Prelude.{ℕ, ◌+◌, ◌-◌, List, length, take, Option}
+use Rattle.std.specs.Prelude.{ℕ, ◌-◌, List, take, Option}
 use Rattle.std.specs.List.{slice_get}
 
 -- the elements: what the places in use hold, in order

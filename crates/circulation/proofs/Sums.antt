@@ -1,6 +1,6 @@
 -- Sums over the first lines of a network.
-use Rattle.std.proofs.Common.{◌≡◌, ℕ, ◌+◌, ◌*◌, ◌<◌, ◌≤◌, Bool, true, false, cond, refl, ap, arith}
-use Rattle.network.specs.Net.{Net, Line, Limits, size, line, least, most}
+use Rattle.std.proofs.Common.{◌≡◌, ℕ, ◌+◌, ◌<◌, ◌≤◌, Bool, true, false, cond, ap, arith}
+use Rattle.network.specs.Net.{Net, Line, Limits, size, line, most}
 use Rattle.network.proofs.Counting.{upto_more}
 use Rattle.flows.proofs.Sums.{upto_bound}
 use Rattle.circulation.specs.Summed.{summed}

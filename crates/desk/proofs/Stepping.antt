@@ -1,5 +1,5 @@
 -- One act is a step of the transcript.
-use Rattle.std.proofs.Common.{◌≡◌, ℕ, ◌<◌, ◌≤◌, List, ◌++◌, length, Some, None, Ok, Err, Option, Result, sym, refl, ap, ◌∙◌, subst, append_assoc, arith}
+use Rattle.std.proofs.Common.{◌≡◌, ℕ, ◌≤◌, List, ◌++◌, length, Ok, Err, Option, Result, refl, ap, ◌∙◌, subst, append_assoc, arith}
 use Rattle.std.specs.declared.alloc.AllocError.{AllocError}
 use Rattle.contents.specs.Labels.{Labelled}
 use Rattle.network.specs.Net.{Net}
@@ -12,7 +12,7 @@ use Rattle.acts.specs.declared.change.Change.{Change}
 use Rattle.listing.specs.declared.refusal.ListingRefusal.{ListingRefusal}
 use Rattle.listing.specs.declared.refusal.ListingRefusal.TheVariants.{Short, Differ, NoFlow}
 use Rattle.desk.specs.Transcript.{Finds, Queried, Prints, after_change, query_text}
-use Rattle.desk.specs.Steps.{Appended, ListsIn, Stepped, Steps}
+use Rattle.desk.specs.Steps.{Appended, ListsIn, Steps}
 
 pub appended_then : (before mid after xs ys : List ℕ) (r : Result (Unit {0}) AllocError) → mid ≡ before ++ xs → Appended mid after ys r → Appended before after (xs ++ ys) r
 appended_then before mid after xs ys (Ok _) e a = a ∙ ap (λ z. z ++ ys) e ∙ append_assoc before xs ys

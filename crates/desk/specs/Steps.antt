@@ -1,16 +1,12 @@
 -- What the steps of a run do to the transcript so far.
-use Rattle.std.specs.Prelude.{◌≡◌, ℕ, ◌<◌, List, ◌++◌, length, Ok, Err, vec_items, Option, Result}
+use Rattle.std.specs.Prelude.{◌≡◌, ℕ, ◌<◌, List, ◌++◌, length, Ok, Err, Option, Result}
 use Rattle.std.specs.declared.alloc.AllocError.{AllocError}
 use Rattle.contents.specs.Labels.{Labelled}
 use Rattle.network.specs.Net.{Net}
 use Rattle.network.specs.Key.{Key}
-use Rattle.network.specs.Flow.{Lawful}
-use Rattle.layers.specs.Column.{entries_of}
 use Rattle.layers.specs.Present.{Standing}
-use Rattle.layers.specs.declared.entries.Entries.{Entries}
 use Rattle.layers.specs.declared.entry.Entry.{Entry}
 use Rattle.acts.specs.declared.change.Change.{Change}
-use Rattle.listing.specs.Shows.{Matching, Lists}
 use Rattle.listing.specs.declared.refusal.ListingRefusal.{ListingRefusal}
 use Rattle.listing.specs.declared.refusal.ListingRefusal.TheVariants.{Short, Differ, NoFlow}
 use Rattle.text.specs.Placed.{Placed}

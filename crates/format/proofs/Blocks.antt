@@ -1,10 +1,10 @@
 -- A block whose bytes are given by their place.
-use Rattle.std.proofs.Common.{◌≡◌, ℕ, ◌+◌, ◌-◌, ◌*◌, ◌/◌, ◌%◌, ◌<◌, ◌≤◌, false, cond, eqb, ltb, List, map, length, sym, refl, ap, ◌∙◌, subst, arith, length-drop, length-take}
+use Rattle.std.proofs.Common.{◌≡◌, ℕ, ◌+◌, ◌-◌, ◌*◌, ◌/◌, ◌%◌, ◌<◌, ◌≤◌, false, cond, eqb, ltb, List, map, length, sym, ap, ◌∙◌, arith, length-drop, length-take}
 use Rattle.std.specs.List.{range_with_len}
 use Rattle.std.proofs.lemmas.List.FromFn.{get_or-map-range_with_len}
 use Rattle.std.proofs.lemmas.Bool.{lt-ltb, le-ltb, ne_eqb, cond-true, cond-false, cond_both, ltb-true, eqb-false}
 use Rattle.blocks.specs.Bytes.{byte_at}
-use Rattle.blocks.specs.Block.{Block, check_of, record_of, record_count}
+use Rattle.blocks.specs.Block.{Block, check_of, record_of}
 use Rattle.format.proofs.Same.{part_at_byte, check_same, check_small}
 use Rattle.format.proofs.Written.{Given}
 

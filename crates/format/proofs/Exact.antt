@@ -1,5 +1,5 @@
 -- A file of the format passes the checks of the form, and holds what its bytes give.
-use Rattle.std.proofs.Common.{◌≡◌, ℕ, ◌+◌, ◌-◌, ◌*◌, ◌/◌, ◌%◌, ◌<◌, ◌≤◌, min, Bool, true, false, eqb, ltb, List, [], map, length, get_or, MatchBool, sym, refl, ap, ◌∙◌, subst, ⊎_elim, arith}
+use Rattle.std.proofs.Common.{◌≡◌, ℕ, ◌+◌, ◌-◌, ◌*◌, ◌/◌, ◌%◌, ◌<◌, ◌≤◌, Bool, true, false, List, [], map, length, get_or, MatchBool, sym, ap, ◌∙◌, subst, ⊎_elim, arith}
 use Rattle.std.specs.List.{range_with_len}
 use Rattle.std.proofs.lemmas.List.FromFn.{length-map-range_with_len, get_or-map-range_with_len}
 use Rattle.std.proofs.lemmas.List.{ext_get_or}
@@ -12,12 +12,12 @@ use Rattle.blocks.specs.Block.{Block, block_of, record_of, record_count}
 use Rattle.contents.specs.Labels.{Labelled}
 use Rattle.contents.specs.declared.act.Act.{Act}
 use Rattle.contents.specs.declared.act.Act.TheVariants.{Query}
-use Rattle.records.specs.Records.{part_from, sign_from, act_from, label_of, GoodHead, GoodPart, GoodSign, GoodAct}
+use Rattle.records.specs.Records.{part_from, sign_from, act_from, GoodHead, GoodPart, GoodSign}
 use Rattle.records.specs.Text.{SameText}
-use Rattle.layout.specs.Places.{block_count, blocks_for, filled, parts_start, signs_start, acts_start, record_at, parts_in, signs_in, least_total, most_total, name_at, text_at}
-use Rattle.layout.specs.Form.{expects, GoodBlock, RecordForm, sign_held, NewText}
+use Rattle.layout.specs.Places.{block_count, blocks_for, parts_start, signs_start, acts_start, record_at, parts_in, signs_in, least_total, most_total, name_at, text_at}
+use Rattle.layout.specs.Form.{expects, GoodBlock, sign_held, NewText}
 use Rattle.jobfile.specs.Contents.{Contents, contents_of, parts_of, signs_of, names_of, texts_of, labels_of, acts_from, acts_in, act_blocks}
-use Rattle.jobfile.specs.Format.{ActBlock, FileFor, FileOf}
+use Rattle.jobfile.specs.Format.{FileFor, FileOf}
 use Rattle.jobfile.specs.Formed.{Formed}
 use Rattle.jobfile.proofs.Files.{expects_part, expects_sign, expects_act}
 use Rattle.format.proofs.Held.{label_is, part_is, sign_is, act_is, good_head, good_part, good_sign, good_act}

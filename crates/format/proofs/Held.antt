@@ -1,12 +1,12 @@
 -- A record holds one thing: what its bytes give.
-use Rattle.std.proofs.Common.{◌≡◌, ℕ, ◌+◌, ◌*◌, ◌<◌, ◌≤◌, min, eqb, List, [], length, get_or, take, drop, sym, refl, ap, ◌∙◌, subst, arith, length-drop, length-take}
+use Rattle.std.proofs.Common.{◌≡◌, ℕ, ◌<◌, List, length, sym, refl, ap, ◌∙◌, subst, arith}
 use Rattle.std.proofs.lemmas.List.{ext_get_or}
 use Rattle.blocks.specs.Bytes.{byte_at, number_at}
 use Rattle.contents.specs.declared.act.Act.{Act}
 use Rattle.contents.specs.declared.act.Act.TheVariants.{Fix, Bar, Require, LeaveOut, Undo, Query}
 use Rattle.series.specs.declared.records.PartRecord.{PartRecord}
 use Rattle.series.specs.declared.records.SignRecord.{SignRecord}
-use Rattle.records.specs.Records.{Label, HeadBytes, PartBytes, SignBytes, ActBytes, Names, GoodHead, GoodPart, GoodSign, GoodAct, label_of, part_from, sign_from, act_from, act_named, letter_of, part_named, sign_named}
+use Rattle.records.specs.Records.{Label, HeadBytes, PartBytes, SignBytes, ActBytes, Names, GoodHead, GoodPart, GoodSign, GoodAct, label_of, part_from, sign_from, act_from, act_named}
 use Rattle.records.proofs.Labels.{label_length, label_at}
 
 pub label_is : (size : ℕ) (label bytes : List ℕ) → size < length bytes → Label size label bytes → label ≡ label_of size bytes

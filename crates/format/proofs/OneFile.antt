@@ -1,10 +1,10 @@
 -- Two files that hold the same are the same.
-use Rattle.std.proofs.Common.{◌≡◌, ℕ, ◌+◌, ◌-◌, ◌*◌, ◌/◌, ◌%◌, ◌<◌, ◌≤◌, min, List, [], length, get_or, sym, refl, ap, ◌∙◌, subst, ⊎_elim, arith}
+use Rattle.std.proofs.Common.{◌≡◌, ℕ, ◌+◌, ◌-◌, ◌*◌, ◌/◌, ◌%◌, ◌<◌, List, [], length, get_or, sym, ap, ◌∙◌, subst, ⊎_elim, arith}
 use Rattle.std.proofs.lemmas.List.{ext_get_or}
 use Rattle.std.proofs.lemmas.Bool.{cases_lt, cases_eq}
 use Rattle.blocks.specs.Bytes.{byte_at}
 use Rattle.blocks.specs.Block.{block_of, record_of}
-use Rattle.layout.specs.Places.{blocks_for, filled, parts_start, signs_start, acts_start, record_at}
+use Rattle.layout.specs.Places.{blocks_for, filled, signs_start, acts_start, record_at}
 use Rattle.jobfile.specs.Contents.{Contents}
 use Rattle.jobfile.specs.Format.{FileFor}
 use Rattle.format.specs.Theorems.{Bytes}

@@ -1,5 +1,5 @@
 -- What passes a check is not refused by it.
-use Rattle.std.proofs.Common.{◌≡◌, ℕ, ◌+◌, ◌-◌, ◌<◌, ◌≤◌, ◌⊎◌, List, length, sym, refl, ap, ◌∙◌, subst, inl, inr, ⊎_elim, arith}
+use Rattle.std.proofs.Common.{◌≡◌, ℕ, ◌-◌, ◌≤◌, List, length, subst, inl, inr, ⊎_elim, arith}
 use Rattle.std.proofs.lemmas.List.FromFn.{length-map-range_with_len}
 use Rattle.series.specs.Load.{Loadable, LoadRefused, SizeFault, PartFault, SignFault}
 use Rattle.series.specs.declared.load.LoadRefusal.{LoadRefusal}
@@ -11,7 +11,7 @@ use Rattle.records.specs.declared.fault.RecordFault.{RecordFault}
 use Rattle.records.specs.declared.fault.RecordFault.TheVariants as fault
 use Rattle.layout.specs.Places.{parts_in, signs_in, least_total, most_total}
 use Rattle.layout.specs.Form.{GoodBlock, FirstBad, Faulty}
-use Rattle.jobfile.specs.Contents.{Contents, contents_of, parts_of, signs_of}
+use Rattle.jobfile.specs.Contents.{Contents, parts_of, signs_of}
 use Rattle.jobfile.specs.Format.{FileOf}
 use Rattle.jobfile.specs.Formed.{Formed, Room, FormRefused}
 use Rattle.jobfile.specs.Reading.{Loads, NetRefused, Refused}

@@ -1,5 +1,5 @@
 -- The whole file of a job without acts.
-use Rattle.std.proofs.Common.{◌≡◌, ℕ, zero, suc, ◌+◌, ◌-◌, ◌*◌, ◌/◌, ◌%◌, ◌^◌, ◌<◌, ◌≤◌, min, cond, eqb, ltb, List, [], map, length, get_or, sym, refl, ap, ◌∙◌, subst, ⊎_elim, arith, length-drop, length-take}
+use Rattle.std.proofs.Common.{◌≡◌, ℕ, zero, suc, ◌+◌, ◌-◌, ◌*◌, ◌/◌, ◌%◌, ◌<◌, ◌≤◌, cond, eqb, ltb, List, [], map, length, get_or, sym, refl, ap, ◌∙◌, subst, ⊎_elim, arith, length-drop, length-take}
 use Rattle.std.specs.List.{range_with_len}
 use Rattle.std.proofs.lemmas.Nat.{mod_below}
 use Rattle.std.proofs.lemmas.List.FromFn.{length-map-range_with_len, get_or-map-range_with_len}
@@ -10,12 +10,12 @@ use Rattle.series.specs.Sound.{no_sign}
 use Rattle.series.specs.declared.records.PartRecord.{PartRecord}
 use Rattle.series.specs.declared.records.SignRecord.{SignRecord}
 use Rattle.blocks.specs.Bytes.{byte_at}
-use Rattle.blocks.specs.Block.{Block, block_of, record_of}
+use Rattle.blocks.specs.Block.{block_of}
 use Rattle.records.specs.Records.{PartBytes, SignBytes}
 use Rattle.layout.specs.Places.{blocks_for, filled, parts_start, signs_start, acts_start, record_at}
 use Rattle.layout.specs.Form.{expects}
 use Rattle.jobfile.specs.Contents.{Contents}
-use Rattle.jobfile.specs.Format.{FileFor, FileOf}
+use Rattle.jobfile.specs.Format.{FileOf}
 use Rattle.jobfile.proofs.Files.{expects_part, expects_sign}
 use Rattle.format.specs.Theorems.{Bytes, GoodLabel, Writable}
 use Rattle.format.proofs.Same.{part_at_byte}

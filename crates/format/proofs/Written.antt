@@ -1,17 +1,12 @@
 -- The bytes of a file without acts, each given by its place, and that they are the file of the job.
-use Rattle.std.proofs.Common.{◌≡◌, ℕ, zero, suc, ◌+◌, ◌-◌, ◌*◌, ◌/◌, ◌%◌, ◌^◌, ◌<◌, ◌≤◌, min, Bool, cond, eqb, ltb, List, [], map, length, get_or, drop, sym, refl, ap, ◌∙◌, subst, ⊎_elim, arith, length-drop, length-take}
-use Rattle.std.specs.List.{range_with_len}
-use Rattle.std.proofs.lemmas.Nat.{mod_below}
-use Rattle.std.proofs.lemmas.List.FromFn.{length-map-range_with_len, get_or-map-range_with_len}
+use Rattle.std.proofs.Common.{◌≡◌, ℕ, zero, suc, ◌+◌, ◌-◌, ◌*◌, ◌/◌, ◌%◌, ◌^◌, ◌<◌, ◌≤◌, cond, eqb, ltb, List, length, ap, ◌∙◌, subst, arith}
 use Rattle.std.proofs.lemmas.List.{get_or_past}
-use Rattle.std.proofs.lemmas.Bool.{cases_lt, lt-ltb, le-ltb, ne_eqb, eq-eqb, cond-true, cond-false, cond_both, ltb-true}
-use Rattle.blocks.specs.Bytes.{byte_at, number_at}
-use Rattle.blocks.specs.Block.{Block, check_of, block_of, record_of, record_count}
+use Rattle.std.proofs.lemmas.Bool.{lt-ltb, le-ltb, ne_eqb, cond-true, cond-false}
+use Rattle.blocks.specs.Bytes.{byte_at}
 use Rattle.series.specs.declared.records.PartRecord.{PartRecord}
 use Rattle.series.specs.declared.records.SignRecord.{SignRecord}
-use Rattle.records.specs.Records.{Letter, Label, HeadBytes, PartBytes, SignBytes}
-use Rattle.format.specs.Theorems.{Bytes, GoodLabel}
-use Rattle.format.proofs.Same.{part_at_byte, check_same, check_small}
+use Rattle.records.specs.Records.{Label, HeadBytes, PartBytes, SignBytes}
+use Rattle.format.specs.Theorems.{GoodLabel}
 
 -- the digit k of a number in base 256, counted from the lowest
 abbrev pub digit : ℕ → ℕ → ℕ

@@ -1,10 +1,10 @@
 -- A copy of a network's lines, one line more at a time, and what it comes to.
-use Rattle.std.proofs.Common.{◌≡◌, ℕ, ◌+◌, ◌<◌, ◌≤◌, List, length, get_or, set, Some, None, Option, sym, refl, ap, ◌∙◌, subst, arith, below_more}
+use Rattle.std.proofs.Common.{◌≡◌, ℕ, ◌+◌, ◌<◌, List, length, set, Some, None, sym, refl, ap, ◌∙◌, arith, below_more}
 use Rattle.std.specs.List.{slice_get}
 use Rattle.std.specs.Option.{option_map}
-use Rattle.std.proofs.lemmas.List.{get_or-set_same, get_or-set_other, length-set}
+use Rattle.std.proofs.lemmas.List.{get_or-set_same, get_or-set_other}
 use Rattle.std.proofs.lemmas.Option.{slice_get-get_or}
-use Rattle.network.specs.Net.{Net, Fit, Limits, Same, size, line, no_line, told, tail, head, least, most}
+use Rattle.network.specs.Net.{Net, Limits, Same, size, line, no_line, told}
 use Rattle.network.specs.Records.{line_of, net_of}
 use Rattle.network.specs.declared.line_record.LineRecord.{LineRecord}
 use Rattle.index.specs.Copy.{Held}

@@ -1,5 +1,5 @@
 -- The acts that are left from a block on.
-use Rattle.std.proofs.Common.{◌≡◌, ℕ, zero, suc, ◌+◌, ◌-◌, ◌<◌, ◌≤◌, List, [], ◌∷◌, ◌++◌, map, length, Some, None, Option, sym, refl, ap, ◌∙◌, subst, arith, MatchOption}
+use Rattle.std.proofs.Common.{◌≡◌, ℕ, zero, suc, ◌+◌, ◌-◌, ◌<◌, ◌≤◌, List, [], ◌∷◌, ◌++◌, length, Some, None, Option, sym, refl, ap, ◌∙◌, subst, arith, MatchOption}
 use Rattle.std.specs.List.{slice_get, range_with_len, flat_map}
 use Rattle.std.proofs.lemmas.List.FromFn.{length-map-range_with_len}
 use Rattle.std.proofs.lemmas.Bool.{le-ltb, ne_eqb}
@@ -7,7 +7,7 @@ use Rattle.std.proofs.lemmas.Bool.Decides.{when_false}
 use Rattle.blocks.specs.Block.{block_of, record_of, record_count}
 use Rattle.contents.specs.declared.act.Act.{Act}
 use Rattle.records.specs.Records.{GoodAct, act_from}
-use Rattle.layout.specs.Places.{block_count, parts_in, signs_in, signs_start}
+use Rattle.layout.specs.Places.{block_count, parts_in, signs_start}
 use Rattle.jobfile.specs.Contents.{acts_of, acts_in, acts_from}
 use Rattle.jobfile.specs.Formed.{Formed}
 use Rattle.jobfile.proofs.Listed.{nth_inside}

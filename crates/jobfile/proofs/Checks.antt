@@ -1,5 +1,5 @@
 -- The checks of a file's form, joined.
-use Rattle.std.proofs.Common.{◌≡◌, ℕ, min, List, ap, ◌∙◌, subst, inl, inr, arith}
+use Rattle.std.proofs.Common.{◌≡◌, ℕ, min, List, ap, ◌∙◌, subst, inr, arith}
 use Rattle.contents.specs.Labels.{Labelled}
 use Rattle.layout.specs.Places.{block_count, parts_in, signs_in}
 use Rattle.layout.specs.Form.{GoodBlocks}

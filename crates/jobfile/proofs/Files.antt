@@ -1,6 +1,5 @@
 -- A file whose form was found right is the file of what it holds.
-use Rattle.std.proofs.Common.{◌≡◌, ℕ, ◌+◌, ◌-◌, ◌*◌, ◌/◌, ◌%◌, ◌<◌, ◌≤◌, min, cond, eqb, ltb, List, [], map, length, get_or, MatchBool, sym, refl, ap, ◌∙◌, subst, arith}
-use Rattle.std.specs.List.{range_with_len}
+use Rattle.std.proofs.Common.{◌≡◌, ℕ, ◌+◌, ◌-◌, ◌*◌, ◌/◌, ◌%◌, ◌<◌, eqb, ltb, List, [], length, get_or, sym, ap, ◌∙◌, subst, arith}
 use Rattle.std.proofs.lemmas.List.FromFn.{length-map-range_with_len, get_or-map-range_with_len}
 use Rattle.std.proofs.lemmas.Bool.{lt-ltb, le-ltb, ne_eqb, cond-true, cond-false}
 use Rattle.std.proofs.lemmas.Bool.Decides.{when_true, when_false}
@@ -11,11 +10,11 @@ use Rattle.series.specs.declared.records.SignRecord.{SignRecord}
 use Rattle.blocks.specs.Block.{Block, block_of, record_of, record_count}
 use Rattle.contents.specs.declared.act.Act.{Act}
 use Rattle.contents.specs.declared.act.Act.TheVariants.{Query}
-use Rattle.records.specs.Records.{PartBytes, SignBytes, ActBytes, GoodHead, GoodPart, GoodSign, GoodAct, part_from, sign_from, act_from}
+use Rattle.records.specs.Records.{PartBytes, SignBytes, ActBytes, GoodPart, GoodSign, part_from, sign_from, act_from}
 use Rattle.records.specs.Text.{SameText}
 use Rattle.layout.specs.Places.{block_count, blocks_for, filled, parts_start, signs_start, acts_start, record_at, parts_in, signs_in, name_at, text_at}
 use Rattle.layout.specs.Form.{expects, GoodBlock, sign_held, NewText}
-use Rattle.jobfile.specs.Contents.{Contents, contents_of, parts_of, signs_of, names_of, texts_of, acts_from, acts_in, act_blocks}
+use Rattle.jobfile.specs.Contents.{contents_of, parts_of, signs_of, names_of, texts_of, acts_from, acts_in, act_blocks}
 use Rattle.jobfile.specs.Format.{ActBlock, FileFor, FileOf}
 use Rattle.jobfile.specs.Formed.{Formed}
 use Rattle.jobfile.proofs.ActLists.{act_good}

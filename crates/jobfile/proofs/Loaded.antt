@@ -1,5 +1,5 @@
 -- What was loaded is the job of the file.
-use Rattle.std.proofs.Common.{◌≡◌, ℕ, List, ◌++◌, take, drop, ap, ◌∙◌, subst}
+use Rattle.std.proofs.Common.{◌≡◌, ℕ, List, ◌++◌, take, ap, ◌∙◌, subst}
 use Rattle.series.specs.declared.records.PartRecord.{PartRecord}
 use Rattle.series.specs.declared.records.SignRecord.{SignRecord}
 use Rattle.records.specs.Records.{part_from, sign_from}

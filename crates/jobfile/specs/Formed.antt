@@ -1,6 +1,6 @@
 -- The checks of a file's form, in order, and which of them is the first to fail.
 use Rattle.std.specs.Prelude.{◌≡◌, ℕ, ◌+◌, ◌%◌, ◌<◌, ◌≤◌, ◌⊎◌, List, length, Result, MatchResult}
-use Rattle.layout.specs.Places.{block_count, acts_start, parts_in, signs_in}
+use Rattle.layout.specs.Places.{block_count, parts_in, signs_in}
 use Rattle.layout.specs.Form.{GoodBlock, GoodBlocks, Faulty, FirstFault}
 use Rattle.jobfile.specs.Contents.{acts_from}
 use Rattle.jobfile.specs.declared.fault.JobFault.{JobFault}

@@ -1,5 +1,5 @@
 -- The labels that a job file hands out, within the limits of labels: this is shown here, for every value of the type.
-use Rattle.std.specs.Prelude.{◌≡◌, ℕ, ◌+◌, ◌<◌, ◌≤◌, min, List, [], map, length, slice_index_or}
+use Rattle.std.specs.Prelude.{ℕ, ◌<◌, ◌≤◌, min, List, [], map, length, slice_index_or}
 use Rattle.std.proofs.Common.{sym, subst, arith}
 use Rattle.std.specs.List.{range_with_len}
 use Rattle.std.proofs.lemmas.List.FromFn.{length-map-range_with_len, get_or-map-range_with_len}

@@ -1,5 +1,5 @@
 -- What laying and undoing answer, and the entries that stand then, are determined by the entries that stood, the lines and their bounds.
-use Rattle.std.proofs.Common.{◌≡◌, ℕ, ◌<◌, ◌≤◌, List, [], ◌∷◌, ◌++◌, length, Ok, Err, Result, sym, refl, ap, ◌∙◌, arith}
+use Rattle.std.proofs.Common.{◌≡◌, ℕ, List, [], ◌∷◌, ◌++◌, length, Ok, Err, Result, sym, refl, ap, ◌∙◌, arith}
 use Rattle.std.proofs.lemmas.List.{same_from_push, length_push}
 use Rattle.layers.specs.Entries.{Accepted, LayRefused, Lays, Undoes}
 use Rattle.layers.specs.declared.entries.LayRefusal.{LayRefusal}

@@ -1,8 +1,8 @@
 -- Where each entry was accepted when it was laid, what the entries leave are the present bounds.
-use Rattle.std.proofs.Common.{◌≡◌, ℕ, ◌+◌, min, max, Bool, true, false, cond, ◌&&◌, eqb, List, [], ◌∷◌, ◌++◌, sym, refl, ap, ◌∙◌, ap₂, ⊎_elim, arith}
+use Rattle.std.proofs.Common.{◌≡◌, ℕ, min, max, Bool, true, false, cond, ◌&&◌, eqb, List, [], ◌∷◌, ◌++◌, sym, refl, ap, ◌∙◌, ap₂, ⊎_elim, arith}
 use Rattle.std.proofs.lemmas.Bool.{cond-true, cond-false, and_from, and_left, le-leb, eqb-true, cases_Bool}
 use Rattle.layers.specs.Entries.{Inside}
-use Rattle.layers.specs.Narrow.{within, tightened, narrow, narrowed}
+use Rattle.layers.specs.Narrow.{tightened, narrow, narrowed}
 use Rattle.layers.specs.Present.{highest, lowest, same_bound, amounts, present_of}
 use Rattle.layers.specs.declared.entry.Bound.{Bound}
 use Rattle.layers.specs.declared.entry.Bound.TheVariants.{AtLeast, AtMost}

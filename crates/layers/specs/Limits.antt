@@ -4,7 +4,7 @@ use Rattle.std.proofs.Common.{⊎_elim, arith}
 use Rattle.std.proofs.lemmas.List.{length_push, get_or_append_left, get_or_push}
 use Rattle.std.proofs.lemmas.List.FromFn.{length-map-range_with_len, get_or-map-range_with_len}
 use Rattle.std.proofs.lemmas.Bool.{cond_both, and_parts, ltb-true, leb-true, cases_lt}
-use Rattle.network.specs.Net.{Net, Line, Fit, Limits, size, line, no_line, tail, head, least, most}
+use Rattle.network.specs.Net.{Net, Line, Fit, Limits, size, line, no_line}
 use Rattle.network.specs.Records.{line_of}
 use Rattle.network.specs.declared.line_record.LineRecord.{LineRecord}
 use Rattle.layers.specs.Entries.{bounds_of, bounded, bounds_under, net_under}

@@ -1,7 +1,7 @@
 -- How many records a block may hold.
 use Rattle.std.proofs.Common.{ℕ, ◌≤◌, eqb, ltb, arith}
 use Rattle.std.proofs.lemmas.Bool.{cond_both}
-use Rattle.layout.specs.Places.{filled, signs_start, acts_start}
+use Rattle.layout.specs.Places.{signs_start, acts_start}
 use Rattle.layout.specs.Form.{expects}
 
 -- a block holds at most 16 records of its kind

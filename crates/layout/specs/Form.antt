@@ -7,7 +7,7 @@ use Rattle.records.specs.Records.{GoodHead, GoodPart, GoodSign, GoodAct}
 use Rattle.records.specs.Text.{SameText}
 use Rattle.records.specs.declared.fault.RecordFault.{RecordFault}
 use Rattle.records.specs.declared.fault.RecordFault.TheVariants as fault
-use Rattle.layout.specs.Places.{blocks_for, filled, signs_start, acts_start, text_at}
+use Rattle.layout.specs.Places.{filled, signs_start, acts_start, text_at}
 
 -- the kind of the block b (J, P, S or A), and the fewest and the most records that it may hold
 abbrev pub expects : (n m b : ℕ) → ℕ × ℕ × ℕ

@@ -1,12 +1,11 @@
 -- What the memory of an accepted sift shows is decided by the lawful flows.
-use Rattle.std.proofs.Common.{◌≡◌, ℕ, ◌<◌, ◌≤◌, Bool, true, false, not, ◌&&◌, eqb, ltb, ◌≢◌, length, get_or, take, Some, None, Decides, Option, sym, refl, ap, ◌∙◌, subst, inl, inr, ⊎_elim, arith, get_or-take}
+use Rattle.std.proofs.Common.{◌≡◌, ℕ, ◌<◌, ◌≤◌, Bool, true, false, not, eqb, ltb, ◌≢◌, length, get_or, take, Some, None, Decides, Option, sym, refl, ◌∙◌, subst, ⊎_elim, arith, get_or-take}
 use Rattle.std.proofs.lemmas.Bool.{lt-ltb, and_from, and_parts, cases_eq, false≢true}
 use Rattle.std.proofs.lemmas.Bool.Decides.{Decides-not, Decides-eqb}
 use Rattle.network.specs.Net.{Net, size}
 use Rattle.network.specs.Key.{Key, Keyed, Finds}
 use Rattle.network.specs.Flow.{at, Fixed, Free}
 use Rattle.network.specs.declared.role.Role.{Role}
-use Rattle.verdicts.specs.Verdicts.{Verdict}
 use Rattle.sift.specs.Sifted.{Accepted}
 use Rattle.sift.specs.Workspace.{Workspace}
 use Rattle.rendering.specs.Tables.{fixed_at, table_of}

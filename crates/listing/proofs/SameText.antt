@@ -4,10 +4,9 @@ use Rattle.std.proofs.lemmas.Bool.Decides.{same_from_decides, Decides-like}
 use Rattle.contents.specs.Labels.{Labelled}
 use Rattle.network.specs.Net.{Net, Same}
 use Rattle.network.specs.Key.{Key}
-use Rattle.network.specs.Flow.{Fixed}
 use Rattle.flows.proofs.Same.{same_sym, fixed_same}
 use Rattle.rendering.specs.Render.{Table, in_order, mark, sign_text, part_text, render}
-use Rattle.listing.specs.Shows.{FixedOn, Shows, Matching, Lists, SameKey, SameMeaningSameListing}
+use Rattle.listing.specs.Shows.{FixedOn, Shows, Matching, SameKey, SameMeaningSameListing}
 
 in_order_same : (n : ℕ) (f h : ℕ → List ℕ) → ((k : ℕ) → k < n → f k ≡ h k) → in_order n f ≡ in_order n h
 in_order_same zero f h e = refl

@@ -1,5 +1,5 @@
 -- What the listing call answers, and what the memory lent to it holds then.
-use Rattle.std.specs.Prelude.{◌≡◌, ℕ, ◌<◌, ◌≤◌, ◌⊎◌, List, length, Some, None, Ok, Err, Option, Result}
+use Rattle.std.specs.Prelude.{◌≡◌, ℕ, ◌<◌, ◌⊎◌, List, length, Some, None, Ok, Err, Option, Result}
 use Rattle.contents.specs.Labels.{Labelled}
 use Rattle.network.specs.Net.{Net}
 use Rattle.network.specs.Key.{Key}

@@ -1,5 +1,5 @@
 -- One place more in a sum or a count, as a loop over the places adds it.
-use Rattle.std.proofs.Common.{◌≡◌, ℕ, suc, ◌+◌, Bool, true, false, cond, refl, ap, ◌∙◌, add-one, arith}
+use Rattle.std.proofs.Common.{◌≡◌, ℕ, ◌+◌, Bool, true, false, cond, ◌∙◌, add-one, arith}
 use Rattle.network.specs.Sum.{upto, count_upto}
 
 pub upto_more : (n : ℕ) (f : ℕ → ℕ) → upto (n + 1) f ≡ upto n f + f n

@@ -1,5 +1,5 @@
 -- The answers of the call that turns a numbering into its flow.
-use Rattle.std.proofs.Common.{◌≡◌, ℕ, ◌+◌, ◌≤◌, List, ◌++◌, length, take, drop, Err, sym, refl, subst}
+use Rattle.std.proofs.Common.{◌≡◌, ℕ, ◌+◌, ◌≤◌, List, ◌++◌, length, take, drop, Err, refl, subst}
 use Rattle.series.specs.Job.{Job, part_count, line_count}
 use Rattle.series.specs.Limits.{Held}
 use Rattle.series.specs.Numbering.{LawfulNumbering, Judged}

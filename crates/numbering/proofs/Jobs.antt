@@ -1,8 +1,8 @@
 -- What the numbering call says where the legend is that of a whole job under entries.
-use Rattle.std.proofs.Common.{◌≡◌, ℕ, ◌+◌, ◌<◌, ◌≤◌, ◌⊎◌, List, ◌++◌, length, get_or, take, drop, Ok, Err, Result, sym, refl, ap, ◌∙◌, subst, inl, inr, ⊎_elim, arith, length-append, get_or-take}
+use Rattle.std.proofs.Common.{◌≡◌, ℕ, ◌+◌, ◌<◌, ◌≤◌, ◌⊎◌, List, ◌++◌, length, take, drop, Ok, Err, Result, sym, refl, ap, ◌∙◌, subst, inl, inr, arith, length-append, get_or-take}
 use Rattle.std.proofs.lemmas.List.FromFn.{length-map-range_with_len}
 use Rattle.std.proofs.lemmas.List.{take-append-le, take_all}
-use Rattle.std.proofs.lemmas.Bool.{cases_eq, cases_lt}
+use Rattle.std.proofs.lemmas.Bool.{cases_lt}
 use Rattle.network.specs.Flow.{at, Lawful, Fixed, Free}
 use Rattle.network.specs.Key.{Key}
 use Rattle.network.specs.Net.{Net, size}
@@ -12,14 +12,13 @@ use Rattle.layers.specs.declared.entry.Entry.{Entry}
 use Rattle.layers.specs.Under.{size_bounded}
 use Rattle.series.specs.Job.{Job, part_count, sign_count, line_count, whole_net}
 use Rattle.series.specs.Key.{key_of, pair_place}
-use Rattle.series.specs.Numbering.{unsigned}
-use Rattle.sift.specs.Sifted.{Accepted, Sifted}
+use Rattle.sift.specs.Sifted.{Accepted}
 use Rattle.sift.specs.Workspace.{Workspace}
 use Rattle.sift.specs.declared.refusal.SiftRefusal.{SiftRefusal}
 use Rattle.sift.specs.declared.refusal.SiftRefusal.TheVariants.{Short, NoFlow}
 use Rattle.solutions.specs.Carried.{flow_of, byte_of, numbering_of}
 use Rattle.solutions.specs.Obeyed.{LawfulUnder}
-use Rattle.solutions.specs.Offered.{SomeHas, NoneHas}
+use Rattle.solutions.specs.Offered.{SomeHas}
 use Rattle.solutions.proofs.Lines.{size_whole}
 use Rattle.solutions.proofs.Obeyed.{flow_under, numbering_under, forth_under}
 use Rattle.solutions.proofs.Offered.{offers}
@@ -27,8 +26,8 @@ use Rattle.solutions.proofs.Regions.{pair_inside}
 use Rattle.solutions.proofs.Tests.{one_le}
 use Rattle.solutions.proofs.ToFlow.{carries_part}
 use Rattle.solutions.specs.Solution.{set_of}
-use Rattle.numbering.specs.Numbered.{Numbered, Numbers}
-use Rattle.numbering.specs.JobNumbered.{OfJob, CalledFixed, CalledFree, VerdictsTell, JobNumbered, NumbersJob, NumbersJobs}
+use Rattle.numbering.specs.Numbered.{Numbers}
+use Rattle.numbering.specs.JobNumbered.{OfJob, CalledFixed, CalledFree, VerdictsTell, JobNumbered, NumbersJobs}
 use Rattle.numbering.proofs.Passes.{judge_passes}
 use Rattle.numbering.proofs.Within.{numbering_take}
 

@@ -1,19 +1,17 @@
 -- A closed one-series job, with entries over it or without, is a legend of its whole job.
-use Rattle.std.proofs.Common.{◌≡◌, ℕ, ◌<◌, List, [], sym, refl, ap, ◌∙◌, subst, arith}
-use Rattle.network.specs.Net.{Net, Same, size, line, tail, head, least, most}
+use Rattle.std.proofs.Common.{◌≡◌, ℕ, [], sym, refl, ap, ◌∙◌, subst, arith}
+use Rattle.network.specs.Net.{Net, Same, tail, head, least, most}
 use Rattle.flows.proofs.Same.{same_refl}
 use Rattle.layers.specs.Entries.{net_under}
-use Rattle.layers.specs.Present.{present, present_net, Standing}
+use Rattle.layers.specs.Present.{present, present_net}
 use Rattle.layers.specs.declared.closing.Closing.{Closing}
-use Rattle.layers.specs.declared.entry.Entry.{Entry}
 use Rattle.layers.proofs.Standing.{standing_net}
 use Rattle.layers.specs.Under.{size_bounded, line_bounded}
 use Rattle.series.specs.Job.{job_of, whole_net}
 use Rattle.series.specs.Key.{key_of}
 use Rattle.series.specs.Limits.{held}
 use Rattle.series.specs.declared.one_series.OneSeries.{OneSeries}
-use Rattle.job.specs.Closed.{ClosedJob, meaning_of}
-use Rattle.numbering.specs.JobNumbered.{OfJob}
+use Rattle.job.specs.Closed.{ClosedJob}
 use Rattle.numbering.specs.Stacked.{ClosedOfJob}
 
 -- with no entries a network means what it does

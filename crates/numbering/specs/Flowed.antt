@@ -1,5 +1,5 @@
 -- What the call does that turns a numbering into its flow.
-use Rattle.std.specs.Prelude.{◌≡◌, ℕ, ◌+◌, ◌<◌, ◌≤◌, ◌⊎◌, List, ◌++◌, length, take, drop, Ok, Err, Result}
+use Rattle.std.specs.Prelude.{◌≡◌, ℕ, ◌+◌, ◌<◌, ◌⊎◌, List, ◌++◌, length, take, drop, Ok, Err, Result}
 use Rattle.network.specs.Flow.{Lawful}
 use Rattle.layers.specs.Present.{present_net, Standing}
 use Rattle.layers.specs.declared.entry.Entry.{Entry}

@@ -1,9 +1,9 @@
 -- A pair that carries something in a lawful flow is a sign of the part in the flow's numbering, and the reverse.
-use Rattle.std.proofs.Common.{◌≡◌, ℕ, ◌<◌, Bool, true, false, cond, ◌&&◌, eqb, ltb, List, Some, None, sym, refl, ap, ◌∙◌, subst, ⊎_elim, arith}
-use Rattle.std.proofs.lemmas.Bool.{lt-ltb, and_from, cond-true, cases_Bool}
+use Rattle.std.proofs.Common.{◌≡◌, ℕ, ◌<◌, Bool, true, false, eqb, List, Some, sym, refl, ap, ◌∙◌, subst, arith}
+use Rattle.std.proofs.lemmas.Bool.{lt-ltb, and_from, cond-true}
 use Rattle.std.proofs.lemmas.Bool.Decides.{Decides-eqb}
 use Rattle.contents.specs.Labels.{Labelled}
-use Rattle.network.specs.Flow.{Lawful, Fixed, Free, at}
+use Rattle.network.specs.Flow.{Fixed, Free, at}
 use Rattle.layers.specs.Present.{present_net, Standing}
 use Rattle.layers.specs.declared.entry.Entry.{Entry}
 use Rattle.series.specs.Job.{Job, part_count, sign_count, whole_net}

@@ -1,9 +1,8 @@
 -- The search, one reached node more at a time.
-use Rattle.std.proofs.Common.{◌≡◌, ℕ, ◌+◌, ◌<◌, ◌≤◌, true, false, cond, ltb, List, length, get_or, set, sym, refl, ap, ◌∙◌, subst, inl, inr, arith, below_more}
+use Rattle.std.proofs.Common.{◌≡◌, ℕ, ◌+◌, ◌<◌, ◌≤◌, cond, ltb, List, length, get_or, set, sym, refl, ap, ◌∙◌, subst, inl, inr, arith, below_more}
 use Rattle.std.proofs.lemmas.List.{length-set, get_or-set_same, get_or-set_other}
 use Rattle.std.proofs.lemmas.Bool.{cases_eq, lt-ltb, le-ltb}
 use Rattle.network.specs.Net.{Net}
-use Rattle.network.specs.Sum.{count_upto}
 use Rattle.flows.proofs.Sums.{count_less, count_more, upto_zero}
 use Rattle.index.specs.Steps.{target}
 use Rattle.reach.specs.Levels.{level, Near, near, Down}

@@ -1,13 +1,13 @@
 -- The search from the lacking nodes to its end.
-use Rattle.std.proofs.Common.{◌≡◌, ℕ, ◌+◌, ◌<◌, ◌≤◌, List, [], length, get_or, set, sym, refl, ap, ◌∙◌, subst, inl, inr, arith, below_more}
-use Rattle.std.proofs.lemmas.List.{get_or-set_same, get_or-set_other}
+use Rattle.std.proofs.Common.{◌≡◌, ℕ, ◌+◌, ◌<◌, ◌≤◌, List, [], length, get_or, set, sym, ap, ◌∙◌, subst, inl, inr, arith, below_more}
+use Rattle.std.proofs.lemmas.List.{get_or-set_other}
 use Rattle.std.proofs.lemmas.Bool.{cases_eq, cases_lt}
 use Rattle.network.specs.Net.{Net, Limits, line, tail, head}
 use Rattle.network.specs.Records.{net_of}
 use Rattle.flows.proofs.Sums.{count_le}
 use Rattle.reach.specs.Levels.{level, Near, near, Finished, Levelled}
 use Rattle.reach.specs.Search.{Front, Grown, Seeded, Spreading}
-use Rattle.reach.proofs.Front.{front_none, front_more, front_room, level_new, level_kept, grown_none, grown_then}
+use Rattle.reach.proofs.Front.{front_none, front_more, front_room, level_new, grown_none, grown_then}
 
 -- no node is reached at first
 pub seeded_none : (n : ℕ) (lack : ℕ → ℕ) (cells : List ℕ) (count : ℕ) (distance : List ℕ) → count ≡ 0 → length cells ≡ n → length distance ≡ n

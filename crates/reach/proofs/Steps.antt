@@ -1,7 +1,7 @@
 -- Steps and their reverse, and the rows of the index in which they stand.
-use Rattle.std.proofs.Common.{◌≡◌, ℕ, zero, suc, ◌+◌, ◌-◌, ◌*◌, ◌<◌, ◌≤◌, Bool, true, false, cond, eqb, List, length, refl, subst, arith}
+use Rattle.std.proofs.Common.{◌≡◌, ℕ, zero, suc, ◌+◌, ◌-◌, ◌<◌, ◌≤◌, Bool, true, false, cond, eqb, List, length, refl, arith}
 use Rattle.network.specs.Net.{Net, Limits, size, line, tail, head}
-use Rattle.index.specs.Rows.{Leaves, Indexed, start, step_at}
+use Rattle.index.specs.Rows.{Leaves, Indexed, start}
 use Rattle.index.specs.Steps.{origin, target}
 use Rattle.index.specs.declared.step.Step.{Step}
 use Rattle.reach.specs.Room.{reversed}

@@ -1,14 +1,13 @@
 -- A visit of a reached node: every step with room into it is tried, and then the node is finished.
-use Rattle.std.proofs.Common.{◌≡◌, ℕ, ◌+◌, ◌-◌, ◌<◌, ◌≤◌, List, length, get_or, set, sym, refl, ap, ◌∙◌, subst, arith, below_more}
-use Rattle.std.proofs.lemmas.List.{get_or-set_same}
-use Rattle.network.specs.Net.{Net, size, line, tail, head, least, most}
+use Rattle.std.proofs.Common.{◌≡◌, ℕ, ◌+◌, ◌<◌, ◌≤◌, List, set, sym, ap, ◌∙◌, subst, arith, below_more}
+use Rattle.network.specs.Net.{Net}
 use Rattle.network.specs.Flow.{at}
 use Rattle.index.specs.Rows.{Leaves, Indexed, start, step_at}
-use Rattle.index.specs.Steps.{along, against, origin, target}
+use Rattle.index.specs.Steps.{along, against, target}
 use Rattle.index.specs.declared.step.Step.{Step}
 use Rattle.reach.specs.Room.{room_of, reversed}
-use Rattle.reach.specs.Levels.{Ground, level, Near, Down, Finished, Levelled}
-use Rattle.reach.specs.Search.{Front, Grown, Tried, RowTried, Visiting}
+use Rattle.reach.specs.Levels.{Ground, level, Near, Down, Finished}
+use Rattle.reach.specs.Search.{Front, Tried, RowTried, Visiting}
 use Rattle.reach.proofs.Steps.{leaves_reversed, target_reversed, target_inside}
 use Rattle.reach.proofs.Front.{front_more, grown_one, grown_none, grown_then, front_room, level_new, level_kept}
 

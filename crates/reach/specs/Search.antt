@@ -1,5 +1,5 @@
 -- What the search keeps true while it goes on.
-use Rattle.std.specs.Prelude.{◌≡◌, ℕ, ◌+◌, ◌<◌, ◌≤◌, List, length, slice_index, slice_index_or}
+use Rattle.std.specs.Prelude.{◌≡◌, ℕ, ◌<◌, ◌≤◌, List, length, slice_index, slice_index_or}
 use Rattle.network.specs.Net.{Net}
 use Rattle.network.specs.Sum.{count_upto}
 use Rattle.network.specs.Records.{net_of}

@@ -1,9 +1,9 @@
 -- The record of an act: what lies behind its first three bytes, and what the three bytes name.
-use Rattle.std.proofs.Common.{◌≡◌, ℕ, ◌+◌, ◌-◌, ◌<◌, ◌≤◌, List, length, take, drop, Some, None, Option, sym, refl, ap, ◌∙◌, subst, arith, MatchOption}
+use Rattle.std.proofs.Common.{◌≡◌, ℕ, ◌+◌, ◌-◌, List, length, take, drop, Some, None, Option, sym, ap, ◌∙◌, subst, arith, MatchOption}
 use Rattle.std.proofs.lemmas.List.{get_or-drop, take_rest}
 use Rattle.blocks.specs.Bytes.{byte_at, Zeros}
 use Rattle.contents.specs.declared.act.Act.{Act}
-use Rattle.records.specs.Records.{Names, ActBytes, GoodAct, act_named, act_from}
+use Rattle.records.specs.Records.{Names, GoodAct, act_from}
 
 rest_at : (bytes : List ℕ) (i : ℕ) → byte_at (take (length bytes - 3) (drop 3 bytes)) i ≡ byte_at bytes (3 + i)
 rest_at bytes i = ap (λ (xs : List ℕ). byte_at xs i) (take_rest bytes 3) ∙ get_or-drop 3 bytes i 0

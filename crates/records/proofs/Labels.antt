@@ -1,5 +1,5 @@
 -- The label that bytes hold: its length and its bytes.
-use Rattle.std.proofs.Common.{◌≡◌, ℕ, ◌+◌, ◌<◌, ◌≤◌, min, List, length, take, drop, sym, refl, ap, ◌∙◌, arith, length-drop, length-take, get_or-take}
+use Rattle.std.proofs.Common.{◌≡◌, ℕ, ◌+◌, ◌<◌, ◌≤◌, min, List, length, drop, ◌∙◌, arith, length-drop, length-take, get_or-take}
 use Rattle.std.proofs.lemmas.List.{get_or-drop}
 use Rattle.blocks.specs.Bytes.{byte_at}
 use Rattle.records.specs.Records.{label_of}

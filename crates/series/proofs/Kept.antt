@@ -1,5 +1,5 @@
 -- Records that are copied one by one: each turn copies one more, and what was sound stays so.
-use Rattle.std.proofs.Common.{◌≡◌, ℕ, ◌+◌, ◌<◌, List, [], ◌∷◌, ◌++◌, map, length, get_or, take, set, sym, ap, ◌∙◌, subst, get_or-take}
+use Rattle.std.proofs.Common.{◌≡◌, ℕ, ◌+◌, ◌<◌, List, map, length, get_or, take, set, sym, ap, ◌∙◌, subst, get_or-take}
 use Rattle.std.proofs.lemmas.List.{take_more_set, take_more, map_push}
 use Rattle.series.specs.Sound.{no_sign, SoundSign, SoundSigns}
 use Rattle.series.specs.declared.records.SignRecord.{SignRecord}

@@ -1,7 +1,7 @@
 -- A shifted mask is 0 exactly if the mask has no bit from there on.
-use Rattle.std.proofs.Common.{◌≡◌, ℕ, ◌*◌, ◌/◌, ◌%◌, ◌^◌, ◌<◌, ◌≤◌, true, false, not, eqb, leb, sym, ap, ◌∙◌, ⊎_elim, arith}
-use Rattle.std.proofs.lemmas.Nat.{pow_pos, div-add-mod', mod_below, le-div, div_below}
-use Rattle.std.proofs.lemmas.Bool.{cases_lt, eq-eqb, ne_eqb, le-leb, lt-leb}
+use Rattle.std.proofs.Common.{◌≡◌, ℕ, ◌/◌, ◌^◌, ◌<◌, ◌≤◌, not, eqb, leb, ⊎_elim, arith}
+use Rattle.std.proofs.lemmas.Nat.{pow_pos, le-div, div_below}
+use Rattle.std.proofs.lemmas.Bool.{cases_lt, ne_eqb, le-leb, lt-leb}
 
 pub shifted_out : (mask m : ℕ) → not (eqb (mask / 2 ^ m) 0) ≡ leb (2 ^ m) mask
 shifted_out mask m =

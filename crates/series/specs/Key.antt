@@ -1,5 +1,5 @@
 -- The legend of a one-series job: which line stands for which part, pair or sign.
-use Rattle.std.specs.Prelude.{ℕ, ◌+◌, ◌-◌, ◌*◌, ◌/◌, ◌%◌, cond, ◌&&◌, Some, None, Option, nat_lt}
+use Rattle.std.specs.Prelude.{ℕ, ◌+◌, ◌-◌, ◌*◌, ◌/◌, ◌%◌, cond, ◌&&◌, Some, None, nat_lt}
 use Rattle.network.specs.Key.{Key}
 use Rattle.network.specs.declared.role.Role.{Role}
 use Rattle.network.specs.declared.role.Role.TheVariants.{Standing, Pair, Count, Other}

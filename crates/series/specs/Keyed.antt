@@ -1,12 +1,10 @@
 -- The legend of a one-series job keeps the law of a legend: each part and each pair has exactly one line.
-use Rattle.std.specs.Prelude.{◌≡◌, ℕ, ◌+◌, ◌-◌, ◌*◌, ◌/◌, ◌%◌, ◌<◌, ◌≤◌, Bool, true, false, cond, ◌&&◌, ◌⊎◌, Some, None, nat_lt, refl}
-use Rattle.std.proofs.Common.{sym, ap, ◌∙◌, inl, inr, ⊎_elim, arith}
+use Rattle.std.specs.Prelude.{◌≡◌, ℕ, ◌+◌, ◌-◌, ◌*◌, ◌/◌, ◌%◌, ◌<◌, ◌≤◌, nat_lt}
+use Rattle.std.proofs.Common.{⊎_elim, arith}
 use Rattle.std.proofs.lemmas.Nat.{mul-add-lt, div-mul-add, mod-mul-add, div-add-mod'}
-use Rattle.std.proofs.lemmas.Bool.{cond_both, cond-true, cond-false, ltb-false, lt-ltb, le-ltb, and_from, and_left, and_right}
-use Rattle.network.specs.Net.{size}
-use Rattle.network.specs.Key.{Key, Keyed, Only, Finds}
-use Rattle.network.specs.declared.role.Role.{Role}
-use Rattle.network.specs.declared.role.Role.TheVariants.{Standing, Pair, Count, Other}
+use Rattle.std.proofs.lemmas.Bool.{cond_both, cond-false, ltb-false, lt-ltb, le-ltb, and_left, and_right}
+use Rattle.network.specs.Key.{Keyed, Only}
+use Rattle.network.specs.declared.role.Role.TheVariants.{Standing, Pair, Other}
 use Rattle.series.specs.Job.{Job, part_count, sign_count, line_count, pairs_from, signs_from, job_net}
 use Rattle.series.specs.Key.{role_at, pair_place, key_of}
 use Rattle.series.specs.Limits.{Held}

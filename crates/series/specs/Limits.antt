@@ -1,11 +1,11 @@
 -- The network of a one-series job keeps the limits of a network: this is shown here, for every value of the type.
-use Rattle.std.specs.Prelude.{◌≡◌, ℕ, zero, suc, ◌+◌, ◌-◌, ◌*◌, ◌/◌, ◌%◌, ◌<◌, ◌≤◌, min, Bool, true, false, cond, List, length, take, nat_lt, refl}
-use Rattle.std.proofs.Common.{sym, ap, subst, ◌∙◌, arith, mul-zero, length-take, get_or-take}
+use Rattle.std.specs.Prelude.{ℕ, zero, suc, ◌+◌, ◌-◌, ◌*◌, ◌/◌, ◌%◌, ◌<◌, ◌≤◌, List, length, take, nat_lt}
+use Rattle.std.proofs.Common.{arith, mul-zero, length-take, get_or-take}
 use Rattle.std.proofs.lemmas.Nat.{mul-le, div_below, mod_below}
 use Rattle.std.proofs.lemmas.List.FromFn.{length-map-range_with_len, get_or-map-range_with_len}
 use Rattle.std.proofs.lemmas.Bool.{cond_both, ltb-true, ltb-false}
-use Rattle.network.specs.Net.{Net, Line, Fit, Limits, size, line, no_line}
-use Rattle.series.specs.Sound.{no_sign, SoundSign}
+use Rattle.network.specs.Net.{Fit, Limits, no_line}
+use Rattle.series.specs.Sound.{SoundSign}
 use Rattle.series.specs.Job.{Job, job_of, part_count, sign_count, part_at, sign_at, line_at, standing_line, pair_line, count_line, sink_node, job_net, line_count, signs_from, pairs_from, fewest, utmost, allows}
 use Rattle.series.specs.declared.one_series.OneSeries.{OneSeries}
 use Rattle.series.specs.declared.records.Standing.{Standing}

@@ -1,5 +1,5 @@
 -- Numberings by hand: what a lawful numbering is, and what the judge says of any other.
-use Rattle.std.specs.Prelude.{◌≡◌, ℕ, ◌<◌, ◌≤◌, Bool, true, not, ◌⊎◌, List, length, take, Some, None, Ok, Err, Option, Result, ◌==◌, nat_eq, slice_index}
+use Rattle.std.specs.Prelude.{◌≡◌, ℕ, ◌<◌, ◌≤◌, true, not, ◌⊎◌, List, length, take, Some, None, Ok, Err, Option, Result, ◌==◌, nat_eq, slice_index}
 use Rattle.network.specs.Sum.{count_upto}
 use Rattle.series.specs.Job.{Job, part_count, sign_count, part_at, sign_at, allows}
 use Rattle.series.specs.declared.judge.JudgeRefusal.{JudgeRefusal}

@@ -1,11 +1,11 @@
 -- Two sifts of networks of the same meaning, neither short of memory, agree.
-use Rattle.std.proofs.Common.{◌≡◌, ℕ, ◌<◌, true, false, ◌⊎◌, List, length, get_or, take, is_ok, Ok, Err, Result, sym, refl, ap, ◌∙◌, subst, inl, inr, ⊎_elim, arith, get_or-take}
+use Rattle.std.proofs.Common.{◌≡◌, ℕ, ◌<◌, List, get_or, take, Ok, Err, Result, sym, refl, ◌∙◌, subst, ⊎_elim, arith, get_or-take}
 use Rattle.network.specs.Net.{Net, Same, size}
-use Rattle.network.specs.Flow.{Lawful, Fixed, Free, at}
+use Rattle.network.specs.Flow.{Fixed, Free, at}
 use Rattle.flows.proofs.Same.{same_sym, lawful_same, fixed_same, verdict_agree}
 use Rattle.std.proofs.lemmas.Bool.{false≢true}
 use Rattle.sift.specs.Workspace.{Workspace}
-use Rattle.sift.specs.Sifted.{Sifted, Ran, Accepted, Refused}
+use Rattle.sift.specs.Sifted.{Sifted, Accepted}
 use Rattle.verdicts.specs.Verdicts.{Verdict}
 use Rattle.sift.specs.declared.refusal.SiftRefusal.{SiftRefusal}
 use Rattle.sift.specs.declared.refusal.SiftRefusal.TheVariants.{Short, NoFlow}

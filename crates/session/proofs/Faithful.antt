@@ -1,17 +1,15 @@
 -- The promise follows from what is played.
-use Rattle.std.proofs.Common.{◌≡◌, ℕ, ◌<◌, List, length, get_or, Some, Err, Result, sym, refl, ap, ◌∙◌, subst, arith}
-use Rattle.network.specs.Net.{Net, Same, size}
-use Rattle.flows.proofs.Same.{same_refl}
+use Rattle.std.proofs.Common.{◌≡◌, ℕ, List, get_or, Some, Result, sym, ap, ◌∙◌, subst, arith}
+use Rattle.network.specs.Net.{Net}
 use Rattle.layers.specs.Present.{present, present_net}
 use Rattle.layers.specs.declared.entry.Entry.{Entry}
 use Rattle.layers.proofs.Same.{present_net_same}
 use Rattle.layers.specs.Under.{size_bounded}
 use Rattle.sift.specs.Sifted.{Sifted}
 use Rattle.sift.specs.declared.refusal.SiftRefusal.{SiftRefusal}
-use Rattle.sift.specs.declared.refusal.SiftRefusal.TheVariants.{Short}
 use Rattle.session.specs.Log.{standing}
-use Rattle.session.specs.Promise.{held, Made, Answered, Played, Agree, TurnsAgree, SiftsAgree, Faithful, no_turn}
-use Rattle.session.specs.declared.turn.Answer.TheVariants.{Laid, Undone, Sifted as Told}
+use Rattle.session.specs.Promise.{held, Answered, Played, Agree, SiftsAgree, Faithful, no_turn}
+use Rattle.session.specs.declared.turn.Answer.TheVariants.{Sifted as Told}
 use Rattle.session.specs.declared.turn.Buffers.{Buffers}
 use Rattle.session.specs.declared.turn.Call.{Call}
 use Rattle.session.specs.declared.turn.Call.TheVariants.{Lay, Undo, Sift}

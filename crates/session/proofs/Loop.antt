@@ -6,7 +6,7 @@ use Rattle.network.specs.Net.{Net}
 use Rattle.layers.specs.Present.{Standing}
 use Rattle.layers.specs.declared.entry.Entry.{Entry}
 use Rattle.session.specs.Log.{after_call, after_calls, standing}
-use Rattle.session.specs.Promise.{Answered, Played, no_turn}
+use Rattle.session.specs.Promise.{Answered, no_turn}
 use Rattle.session.specs.declared.turn.Turn.{Turn}
 
 after_push : (g : Net) (es : List Entry) (ts : List Turn) (t : Turn) → after_calls g es (ts ++ t ∷ []) ≡ after_call g (after_calls g es ts) t.call

@@ -1,5 +1,5 @@
 -- Workspaces that are equal part by part.
-use Rattle.std.proofs.Common.{◌≡◌, ℕ, List, sym, refl, ap, ◌∙◌, subst}
+use Rattle.std.proofs.Common.{◌≡◌, ℕ, List, ap, ◌∙◌}
 use Rattle.index.specs.declared.step.Step.{Step}
 use Rattle.sift.specs.Workspace.{Workspace}
 

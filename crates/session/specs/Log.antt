@@ -1,16 +1,14 @@
 -- The reference log: which entries stand after some calls, and what laying and undoing answer. It knows the network's nodes and
 -- lines and the calls so far, and nothing of a layer.
-use Rattle.std.specs.Prelude.{◌≡◌, ℕ, ◌-◌, ◌≤◌, Bool, cond, ◌&&◌, List, [], ◌∷◌, ◌++◌, length, take, Ok, Err, Result, nat_le, nat_lt, slice_index_or}
+use Rattle.std.specs.Prelude.{ℕ, ◌-◌, Bool, cond, ◌&&◌, List, [], ◌∷◌, ◌++◌, length, take, Ok, Err, Result, nat_le, nat_lt, slice_index_or}
 use Rattle.network.specs.Net.{Net, size}
 use Rattle.layers.specs.Present.{present}
 use Rattle.layers.specs.Named.{no_entry}
-use Rattle.layers.specs.declared.entry.Bounds.{Bounds}
 use Rattle.layers.specs.declared.entry.Entry.{Entry}
 use Rattle.layers.specs.declared.entries.LayRefusal.{LayRefusal}
 use Rattle.layers.specs.declared.entries.LayRefusal.TheVariants.{NoLine, OutOfBounds, Full}
 use Rattle.layers.specs.declared.entries.UndoRefusal.{UndoRefusal}
 use Rattle.layers.specs.declared.entries.UndoRefusal.TheVariants.{NoEntry}
-use Rattle.session.specs.declared.turn.Buffers.{Buffers}
 use Rattle.session.specs.declared.turn.Call.{Call}
 use Rattle.session.specs.declared.turn.Call.TheVariants.{Lay, Undo, Sift}
 use Rattle.session.specs.declared.turn.Turn.{Turn}

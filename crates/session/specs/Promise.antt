@@ -1,5 +1,5 @@
 -- The promise: what holds of every list of calls made on a fresh entries layer over a network of any make.
-use Rattle.std.specs.Prelude.{◌≡◌, ℕ, ◌<◌, true, List, [], ◌∷◌, length, get_or, is_ok, Some, None, Ok, Err, vec_items, Result, ◌≢◌, slice_index, slice_index_or}
+use Rattle.std.specs.Prelude.{◌≡◌, ℕ, ◌<◌, true, List, length, get_or, is_ok, Some, None, Err, vec_items, Result, ◌≢◌, slice_index, slice_index_or}
 use Rattle.network.specs.Net.{Net, Same, size}
 use Rattle.network.specs.Flow.{at}
 use Rattle.layers.specs.Present.{present_net}

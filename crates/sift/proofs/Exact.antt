@@ -1,9 +1,9 @@
 -- A sift in memory of exactly the size that it needs: its parts, put together.
-use Rattle.std.proofs.Common.{◌≡◌, ℕ, ◌<◌, ◌≤◌, ◌⊎◌, List, length, get_or, take, replicate, sym, refl, ap, ◌∙◌, subst, arith}
+use Rattle.std.proofs.Common.{◌≡◌, ℕ, ◌<◌, ◌⊎◌, List, length, get_or, take, replicate, sym, ap, ◌∙◌, subst, arith}
 use lib.ListN.{length-replicate}
 use Rattle.std.proofs.lemmas.List.{take_all}
 use Rattle.network.specs.Net.{Net, Limits, size}
-use Rattle.network.specs.Flow.{Lawful, Bottleneck, demand, supply, at}
+use Rattle.network.specs.Flow.{Lawful, Bottleneck, demand, supply}
 use Rattle.flows.proofs.Lawful.{bottleneck_excludes}
 use Rattle.verdicts.specs.Verdicts.{Verdicts}
 use Rattle.sift.specs.Workspace.{Workspace, Cleared, no_step}

@@ -1,12 +1,12 @@
 -- What a sift does in the part of longer memory that it needs, it does in that memory.
-use Rattle.std.proofs.Common.{◌≡◌, ℕ, ◌-◌, ◌<◌, ◌≤◌, ◌⊎◌, List, ◌++◌, length, get_or, take, drop, replicate, Ok, Err, Result, sym, refl, ap, ◌∙◌, subst, inl, inr, ⊎_elim, arith, get_or-take}
+use Rattle.std.proofs.Common.{◌≡◌, ℕ, ◌-◌, ◌<◌, ◌≤◌, ◌⊎◌, List, ◌++◌, length, get_or, take, drop, Ok, Err, Result, sym, ap, ◌∙◌, subst, ⊎_elim, arith, get_or-take}
 use borrow.Rule.Slice.PartMut.{post_of}
 use Rattle.std.proofs.lemmas.List.{take-append-le}
 use Rattle.std.proofs.lemmas.Slice.{drop-append-drop}
 use Rattle.network.specs.Net.{Net, size}
 use Rattle.network.specs.Flow.{Lawful, Fixed, Free, Bottleneck, demand, supply, at}
-use Rattle.sift.specs.Workspace.{Workspace, Short, Cleared, SurplusKept, no_step}
-use Rattle.sift.specs.Sifted.{Accepted, Refused, Done, Sifted, Ran, shown}
+use Rattle.sift.specs.Workspace.{Workspace, Short, Cleared, SurplusKept}
+use Rattle.sift.specs.Sifted.{Accepted, Refused, Done, Sifted, shown}
 use Rattle.sift.specs.declared.refusal.SiftRefusal.{SiftRefusal}
 use Rattle.sift.specs.declared.refusal.SiftRefusal.TheVariants.{Short as TooShort, NoFlow}
 

@@ -1,5 +1,5 @@
 -- What a sift shows of one network it shows of every network of the same meaning.
-use Rattle.std.proofs.Common.{◌≡◌, ℕ, ◌<◌, ◌≤◌, ◌⊎◌, List, length, get_or, take, replicate, Ok, Err, Result, sym, refl, ap, ◌∙◌, subst, inl, inr, ⊎_elim, arith}
+use Rattle.std.proofs.Common.{◌≡◌, ℕ, ◌<◌, List, take, replicate, Ok, Err, Result, ◌∙◌, subst, inl, inr, ⊎_elim, arith}
 use Rattle.network.specs.Net.{Net, Same, size}
 use Rattle.network.specs.Flow.{Lawful, Bottleneck, demand, supply, at}
 use Rattle.flows.proofs.Same.{same_sym, lawful_same, bottleneck_same, demand_same, supply_same, fixed_same, free_same}

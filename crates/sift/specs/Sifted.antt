@@ -1,7 +1,7 @@
 -- What a sift answers, and what the memory lent to it holds then.
-use Rattle.std.specs.Prelude.{◌≡◌, ℕ, ◌<◌, ◌≤◌, Bool, ◌⊎◌, List, length, take, replicate, Some, None, Ok, Err, Option, Result, ◌==◌, slice_index}
+use Rattle.std.specs.Prelude.{◌≡◌, ℕ, ◌<◌, Bool, ◌⊎◌, List, take, replicate, Some, None, Ok, Err, Option, Result, ◌==◌, slice_index}
 use Rattle.network.specs.Net.{Net, size}
-use Rattle.network.specs.Flow.{Lawful, Fixed, Free, Bottleneck, demand, supply, at}
+use Rattle.network.specs.Flow.{Lawful, Bottleneck, demand, supply}
 use Rattle.verdicts.specs.Verdicts.{Verdicts}
 use Rattle.sift.specs.Workspace.{Workspace, Short, SurplusKept, Cleared}
 use Rattle.sift.specs.declared.refusal.SiftRefusal.{SiftRefusal}

@@ -1,5 +1,5 @@
 -- The memory that a sift is lent, and how much of it a network needs.
-use Rattle.std.specs.Prelude.{◌≡◌, ℕ, ◌<◌, ◌≤◌, ◌⊎◌, List, length, take, drop, replicate}
+use Rattle.std.specs.Prelude.{◌≡◌, ℕ, ◌<◌, ◌⊎◌, List, length, take, drop, replicate}
 use Rattle.index.specs.declared.step.Step.{Step}
 use Rattle.network.specs.Net.{Net, size}
 

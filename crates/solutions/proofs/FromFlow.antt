@@ -3,7 +3,7 @@ use Rattle.std.proofs.Common.{◌≡◌, ℕ, ◌+◌, ◌<◌, ◌≤◌, Bool,
 use Rattle.std.proofs.lemmas.List.FromFn.{length-map-range_with_len, get_or-map-range_with_len}
 use Rattle.std.proofs.lemmas.List.{ext_get_or}
 use Rattle.std.proofs.lemmas.Bool.{eq-eqb, eqb-true, lt-ltb, not-false, cond-true, and_from}
-use Rattle.network.specs.Net.{Net, Line, size, line, most}
+use Rattle.network.specs.Net.{Net, Line, size, line}
 use Rattle.network.specs.Flow.{at, Lawful}
 use Rattle.network.specs.Sum.{upto, count_upto}
 use Rattle.flows.proofs.Sums.{upto_same}

@@ -1,5 +1,5 @@
 -- A test that is counted as 1 or 0.
-use Rattle.std.proofs.Common.{◌≡◌, ℕ, ◌≤◌, Bool, true, false, cond, not, refl, arith}
+use Rattle.std.proofs.Common.{◌≡◌, ℕ, ◌≤◌, Bool, true, false, cond, refl, arith}
 
 -- 1 if so, 0 if not
 abbrev pub one : Bool → ℕ

@@ -5,7 +5,7 @@ use Rattle.buffers.specs.declared.marks.Marks.{Marks}
 use Rattle.buffers.specs.declared.places.Places.{Places}
 use Rattle.network.specs.Net.{Net}
 use Rattle.index.specs.Rows.{Indexed, Leaves, start, step_at}
-use Rattle.index.specs.Steps.{origin, target}
+use Rattle.index.specs.Steps.{target}
 use Rattle.index.specs.declared.step.Step.{Step}
 use Rattle.verdicts.specs.Search.{Adds, Found, found, Finished, Grows, Listed, passable, reached}
 use Rattle.verdicts.proofs.Growth.{adds_it, adds_other, grows_none, grows_then, grows_adds}

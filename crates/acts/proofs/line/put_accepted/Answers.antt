@@ -1,4 +1,4 @@
-use Rattle.std.proofs.Common.{◌+◌, ◌^◌, ◌<◌, ◌≤◌, [], ◌∷◌, length, decimal, arith}
+use Rattle.std.proofs.Common.{◌^◌, ◌<◌, [], ◌∷◌, decimal, arith}
 use Rattle.std.proofs.lemmas.Fmt.{length-decimal-le}
 use Rattle.text.proofs.Places.{placed_then, length_after}
 use Rattle.acts.proofs.line.put_accepted.Goals as goal

@@ -1,4 +1,4 @@
-use Rattle.std.proofs.Common.{◌≡◌, ◌<◌, sym, ap, ◌∙◌, subst, arith}
+use Rattle.std.proofs.Common.{◌∙◌, arith}
 use Rattle.network.proofs.Records.{size_is}
 use Rattle.augment.proofs.Pushing.{trail_inside, trail_some, push_trail, push_whole}
 use Rattle.augment.proofs.push.push.Goals as goal

@@ -1,4 +1,4 @@
-use Rattle.std.proofs.Common.{◌∙◌, arith}
+use Rattle.std.proofs.Common.{arith}
 use Rattle.augment.proofs.Pushing.{carry_inside, carry_more, carry_less, carry_next}
 use Rattle.augment.proofs.push.push_along.Goals as goal
 

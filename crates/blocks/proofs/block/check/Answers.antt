@@ -1,6 +1,4 @@
-use Rattle.std.proofs.Common.{◌≡◌, ◌+◌, ◌*◌, ◌%◌, ◌≤◌, sym, ap, ◌∙◌, arith}
-use Rattle.blocks.specs.Block.{weighted}
-use Rattle.blocks.specs.Bytes.{byte_at}
+use Rattle.std.proofs.Common.{◌≡◌, arith}
 use Rattle.blocks.proofs.Weights.{weighted_none, weighted_more, check_of_is, term_small}
 use Rattle.blocks.proofs.block.check.Goals as goal
 

@@ -1,5 +1,5 @@
-use Rattle.std.proofs.Common.{◌≡◌, not, ◌&&◌, sym, ap, ◌∙◌, arith}
-use Rattle.network.specs.Net.{tail, head, most, line}
+use Rattle.std.proofs.Common.{sym, ap, ◌∙◌, arith}
+use Rattle.network.specs.Net.{tail, head, most}
 use Rattle.network.specs.Flow.{leaving}
 use Rattle.network.specs.Records.{net_of}
 use Rattle.network.proofs.Records.{line_is, size_is}

@@ -1,4 +1,4 @@
-use Rattle.std.proofs.Common.{ap, ◌∙◌, arith}
+use Rattle.std.proofs.Common.{ap, arith}
 use Rattle.network.specs.Net.{tail, head, least}
 use Rattle.network.proofs.Records.{line_is, size_is}
 use Rattle.circulation.proofs.Gathering.{gathered_none, gathered_more, head_fits, tail_fits}

@@ -1,4 +1,4 @@
-use Rattle.std.proofs.Common.{◌≡◌, Some, vec_items, sym, ap, subst}
+use Rattle.std.proofs.Common.{Some, vec_items, ap, subst}
 use Rattle.acts.specs.Lines.{act_line}
 use Rattle.layers.specs.Column.{entries_of}
 use Rattle.text.proofs.Places.{placed_front}

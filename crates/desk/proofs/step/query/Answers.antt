@@ -1,4 +1,4 @@
-use Rattle.std.proofs.Common.{◌≡◌, ℕ, ◌≤◌, length, replicate, None, Ok, Err, vec_items, sym, refl, ap, subst, arith}
+use Rattle.std.proofs.Common.{ℕ, ◌≤◌, replicate, None, Ok, Err, vec_items, sym, refl, subst, arith}
 use Rattle.std.proofs.lemmas.List.{length-replicate}
 use Rattle.acts.specs.Lines.{accepted_line, refused_line}
 use Rattle.layers.specs.Column.{entries_of}

@@ -1,4 +1,4 @@
-use Rattle.std.proofs.Common.{◌≡◌, IfOk, vec_items, refl, ap, ◌∙◌, subst}
+use Rattle.std.proofs.Common.{◌≡◌, IfOk, vec_items, ap, ◌∙◌, subst}
 use Rattle.text.proofs.Places.{placed_front}
 use Rattle.jobfile.specs.Faults.{job_told}
 use Rattle.jobrun.specs.Prints.{fault_line}

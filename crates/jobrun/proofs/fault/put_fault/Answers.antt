@@ -1,4 +1,4 @@
-use Rattle.std.proofs.Common.{◌+◌, ◌≤◌, [], ◌∷◌, ◌++◌, length, decimal, arith}
+use Rattle.std.proofs.Common.{arith}
 use Rattle.text.proofs.Places.{placed_then, length_after}
 use Rattle.jobrun.proofs.fault.put_fault.Goals as goal
 

@@ -1,4 +1,4 @@
-use Rattle.std.proofs.Common.{◌≡◌, ◌≤◌, length, sym, refl, ◌∙◌, subst, arith}
+use Rattle.std.proofs.Common.{◌≡◌, length, sym, refl, subst, arith}
 use Rattle.blocks.specs.Bytes.{byte_at}
 use Rattle.records.specs.Records.{Letter, label_of}
 use Rattle.records.proofs.Labels.{label_length, label_at}

@@ -1,7 +1,6 @@
-use Rattle.std.proofs.Common.{◌≡◌, ◌-◌, ◌≤◌, min, length, take, drop, sym, refl, ap, ◌∙◌, subst, arith}
+use Rattle.std.proofs.Common.{◌≡◌, min, length, drop}
 use Rattle.blocks.specs.Bytes.{byte_at}
 use Rattle.std.proofs.lemmas.List.{take_rest}
-use Rattle.records.specs.Records.{Letter, label_of}
 use Rattle.blocks.proofs.Parts.{take_within}
 use Rattle.records.proofs.label.label.Goals as goal
 

@@ -1,4 +1,4 @@
-use Rattle.std.proofs.Common.{◌≡◌, ◌+◌, ◌≤◌, length, sym, ap, subst, arith}
+use Rattle.std.proofs.Common.{length, sym, ap, subst, arith}
 use Rattle.text.specs.Placed.{Placed}
 use Rattle.rendering.proofs.Told.{told_label, told_none}
 use Rattle.rendering.proofs.parts.put_name.Goals as goal

@@ -1,4 +1,4 @@
-use Rattle.std.proofs.Common.{◌≡◌, ◌+◌, ◌*◌, ◌≤◌, [], ◌∷◌, ◌++◌, length, get_or, sym, ap, ◌∙◌, subst, arith}
+use Rattle.std.proofs.Common.{[], ◌∷◌, ◌++◌, length, get_or, subst, arith}
 use Rattle.text.specs.Placed.{Placed}
 use Rattle.text.proofs.Places.{placed_then}
 use Rattle.rendering.specs.Render.{in_order, mark, sign_text}

@@ -1,4 +1,4 @@
-use Rattle.std.proofs.Common.{◌≡◌, ◌+◌, ◌*◌, ◌≤◌, length, sym, ap, ◌∙◌, subst, add-one, arith}
+use Rattle.std.proofs.Common.{sym, subst, add-one, arith}
 use Rattle.text.specs.Placed.{Placed}
 use Rattle.text.proofs.Places.{placed_then}
 use Rattle.rendering.specs.Render.{in_order, part_text}

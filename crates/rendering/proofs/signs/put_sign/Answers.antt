@@ -1,4 +1,4 @@
-use Rattle.std.proofs.Common.{◌≡◌, ◌+◌, ◌≤◌, Bool, cond, not, [], ◌∷◌, get_or, sym, ap, ◌∙◌, subst, arith}
+use Rattle.std.proofs.Common.{cond, not, [], ◌∷◌, get_or, sym, ap, ◌∙◌, subst, arith}
 use Rattle.text.specs.Placed.{Placed}
 use Rattle.text.proofs.Places.{placed_none}
 use Rattle.rendering.specs.Tables.{fixed_at}

@@ -1,6 +1,6 @@
-use Rattle.std.proofs.Common.{◌≡◌, ◌+◌, ◌*◌, ◌<◌, ◌≤◌, length, sym, ap, ◌∙◌, subst, add-one, arith}
+use Rattle.std.proofs.Common.{sym, subst, add-one, arith}
 use Rattle.text.specs.Placed.{Placed}
-use Rattle.text.proofs.Places.{placed_none, placed_then, length_after}
+use Rattle.text.proofs.Places.{placed_none, placed_then}
 use Rattle.rendering.specs.Render.{in_order, sign_text}
 use Rattle.rendering.specs.Tables.{table_of}
 use Rattle.rendering.proofs.signs.put_signs.Goals as goal

@@ -1,4 +1,4 @@
-use Rattle.std.proofs.Common.{◌≡◌, ◌+◌, ◌≤◌, [], ◌∷◌, length, get_or, sym, ap, ◌∙◌, subst, arith}
+use Rattle.std.proofs.Common.{◌∷◌, length, sym, ap, subst, arith}
 use Rattle.text.specs.Placed.{Placed}
 use Rattle.text.proofs.Places.{placed_then, length_after}
 use Rattle.rendering.proofs.Told.{told_label, told_none}

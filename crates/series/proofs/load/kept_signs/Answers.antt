@@ -1,4 +1,4 @@
-use Rattle.std.proofs.Common.{refl, ◌∙◌, arith, length-set}
+use Rattle.std.proofs.Common.{refl, arith, length-set}
 use Rattle.series.specs.Sound.{no_sign}
 use Rattle.series.proofs.Kept.{copied_more}
 use Rattle.series.proofs.load.kept_signs.Goals as goal

@@ -1,4 +1,4 @@
-use Rattle.std.proofs.Common.{◌≡◌, refl, subst}
+use Rattle.std.proofs.Common.{refl, subst}
 use Rattle.layers.specs.Column.{entries_of}
 use Rattle.layers.proofs.Standing.{lays_standing, undoes_standing, standing_net}
 use Rattle.sift.specs.Sifted.{Sifted}

@@ -1,10 +1,10 @@
-use Rattle.std.proofs.Common.{◌≡◌, ◌<◌, length, get_or, sym, ap, ◌∙◌, subst, arith}
+use Rattle.std.proofs.Common.{◌≡◌, ◌<◌, length, get_or, ap, ◌∙◌, subst, arith}
 use Rattle.std.proofs.lemmas.List.{get_or_default}
 use Rattle.layers.specs.Column.{entries_of}
 use Rattle.layers.specs.Present.{Standing}
 use Rattle.session.specs.Log.{after_call}
 use Rattle.session.specs.Promise.{Answered, no_turn}
-use Rattle.session.proofs.Loop.{Going, goes_on, next_call}
+use Rattle.session.proofs.Loop.{goes_on, next_call}
 use Rattle.session.proofs.play.play.Goals as goal
 
 pub loop-k-preserved : goal.loop-k-preserved

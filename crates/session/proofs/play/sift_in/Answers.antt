@@ -4,7 +4,7 @@ use Rattle.sift.specs.Sifted.{Sifted}
 use Rattle.sift.specs.Workspace.{Workspace}
 use Rattle.session.specs.Promise.{held}
 use Rattle.session.specs.declared.turn.Buffers.{Buffers}
-use Rattle.session.proofs.Work.{same_work, SameParts}
+use Rattle.session.proofs.Work.{same_work}
 use Rattle.session.proofs.play.sift_in.Goals as goal
 use Rattle.std.specs.Vec.{with_items}
 

@@ -1,4 +1,4 @@
-use Rattle.std.proofs.Common.{◌≡◌, ap, ◌∙◌}
+use Rattle.std.proofs.Common.{ap, ◌∙◌}
 use Rattle.session.proofs.Faithful.{faithful}
 use Rattle.session.proofs.run.run.Goals as goal
 

@@ -1,4 +1,4 @@
-use Rattle.std.proofs.Common.{◌≡◌, length, take, replicate}
+use Rattle.std.proofs.Common.{◌≡◌, take, replicate}
 use Rattle.sift.proofs.blank.blank.Given as goal
 
 abbrev pub invariant-loop-i : goal.invariant-loop-i

@@ -1,6 +1,6 @@
 use Rattle.std.proofs.Common.{◌≡◌, arith}
 use Rattle.network.specs.Net.{size}
-use Rattle.sift.specs.Workspace.{Workspace, Short, SurplusKept}
+use Rattle.sift.specs.Workspace.{Workspace, SurplusKept}
 use Rattle.sift.proofs.Lift.{Agree, lifted, not_short, rejoined, front_agrees, rest_kept}
 use Rattle.sift.proofs.sift.sift.Goals as goal
 

@@ -1,4 +1,4 @@
-use Rattle.std.proofs.Common.{◌≡◌, subst}
+use Rattle.std.proofs.Common.{subst}
 use Rattle.network.specs.Records.{net_of}
 use Rattle.sift.specs.Workspace.{Workspace}
 use Rattle.sift.specs.Sifted.{Done}

@@ -1,7 +1,7 @@
-use Rattle.std.proofs.Common.{◌≡◌, ℕ, ◌+◌, ◌-◌, ◌<◌, List, sym, ap, ◌∙◌, subst, arith}
+use Rattle.std.proofs.Common.{◌≡◌, ℕ, ◌+◌, ◌-◌, ◌<◌, sym, ap, ◌∙◌, arith}
 use Rattle.std.specs.List.{slice_get}
-use Rattle.layout.specs.Places.{acts_start, parts_in, signs_in, block_count}
-use Rattle.jobfile.specs.Contents.{acts_from, acts_of}
+use Rattle.layout.specs.Places.{block_count}
+use Rattle.jobfile.specs.Contents.{acts_from}
 use Rattle.jobfile.proofs.ActLists.{left_from, act_behind, act_here, act_good, act_found, left_all}
 use Rattle.jobfile.proofs.file.JobFile.act.Goals as goal
 

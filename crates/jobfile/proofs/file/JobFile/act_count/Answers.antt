@@ -1,5 +1,4 @@
-use Rattle.std.proofs.Common.{◌≡◌, ℕ, ◌+◌, ◌-◌, ◌<◌, List, ◌++◌, length, sym, ap, ◌∙◌, arith, length-append}
-use Rattle.layout.specs.Places.{block_count}
+use Rattle.std.proofs.Common.{◌≡◌, ◌+◌, ◌-◌, length, ap, ◌∙◌, arith, length-append}
 use Rattle.jobfile.specs.Contents.{acts_in, acts_from}
 use Rattle.jobfile.proofs.ActLists.{left_from, left_next, acts_long}
 use Rattle.jobfile.proofs.file.JobFile.act_count.Goals as goal

@@ -1,8 +1,6 @@
 use Rattle.std.proofs.Common.{◌≡◌, ◌∙◌}
 use Rattle.series.specs.Job.{job_of}
 use Rattle.series.specs.Load.{job_from, Loadable, LoadRefused}
-use Rattle.layout.specs.Places.{parts_in, signs_in}
-use Rattle.jobfile.specs.Contents.{parts_of, signs_of}
 use Rattle.jobfile.proofs.Loaded.{front_parts, front_signs, of_file}
 use Rattle.jobfile.proofs.file.JobFile.series.Goals as goal
 

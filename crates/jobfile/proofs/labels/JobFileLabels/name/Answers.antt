@@ -1,6 +1,6 @@
-use Rattle.std.proofs.Common.{◌≡◌, min, Some, None, sym, ap, ◌∙◌, arith}
+use Rattle.std.proofs.Common.{min, Some, sym, ap, ◌∙◌, arith}
 use Rattle.records.specs.Records.{label_of}
-use Rattle.layout.specs.Places.{name_at, text_at, parts_in, signs_in}
+use Rattle.layout.specs.Places.{name_at, parts_in}
 use Rattle.jobfile.proofs.Listed.{nth_inside, nth_outside}
 use Rattle.jobfile.proofs.labels.JobFileLabels.name.Goals as goal
 

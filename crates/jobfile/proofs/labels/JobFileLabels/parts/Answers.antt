@@ -1,4 +1,4 @@
-use Rattle.std.proofs.Common.{◌≡◌, min, sym, ◌∙◌}
+use Rattle.std.proofs.Common.{min}
 use Rattle.std.proofs.lemmas.List.FromFn.{length-map-range_with_len}
 use Rattle.layout.specs.Places.{name_at, parts_in}
 use Rattle.jobfile.proofs.labels.JobFileLabels.parts.Goals as goal

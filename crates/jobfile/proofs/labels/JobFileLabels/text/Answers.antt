@@ -1,6 +1,6 @@
-use Rattle.std.proofs.Common.{◌≡◌, ℕ, min, Some, None, sym, ap, ◌∙◌, arith}
+use Rattle.std.proofs.Common.{ℕ, min, Some, sym, ap, ◌∙◌, arith}
 use Rattle.records.specs.Records.{label_of}
-use Rattle.layout.specs.Places.{signs_start, record_at, name_at, text_at, parts_in, signs_in}
+use Rattle.layout.specs.Places.{signs_start, record_at, text_at, parts_in, signs_in}
 use Rattle.jobfile.proofs.Listed.{nth_inside, nth_outside}
 use Rattle.jobfile.proofs.labels.JobFileLabels.text.Goals as goal
 

@@ -1,5 +1,3 @@
-use Rattle.std.proofs.Common.{ℕ, ◌+◌, cond, sym, ap, ◌∙◌}
-use Rattle.series.specs.Job.{allows}
 use Rattle.series.specs.Counts.{part_count_is}
 use Rattle.series.proofs.one_series.OneSeries.pair_line_at.Goals as goal
 
