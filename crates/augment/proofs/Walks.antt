@@ -1,6 +1,6 @@
 -- Walks downhill: one step more, and one step back.
 use Rattle.std.proofs.Common.{◌≡◌, ℕ, zero, suc, ◌+◌, ◌-◌, ◌<◌, Bool, true, false, cond, eqb, List, [], ◌∷◌, length, set, sym, refl, ap, ◌∙◌, subst, arith}
-use Rattle.std.specs.List.{AllByRecursion as All}
+use Rattle.std.specs.List.{AllByRecursion}
 use Rattle.std.proofs.lemmas.List.{length-set, get_or-set_same, get_or-set_other}
 use Rattle.network.specs.Net.{Net, Limits, size}
 use Rattle.flows.specs.Bounds.{Within}
@@ -31,20 +31,20 @@ trodden_less cells (suc n) l = let e : suc n - 1 ≡ n = omega arith in rw e ref
 
 -- every step of a way downhill leaves a node above its end
 above : (g : Net) (height : ℕ → ℕ) (a b : ℕ) (steps : List flows.Step) → Joined g a b steps → Downhill g height steps
-    → All (λ s. height b < height (flows.origin g s)) steps
+    → AllByRecursion (λ s. height b < height (flows.origin g s)) steps
 above g height a b [] j d = tt
 above g height a b (s ∷ steps) j d = (
   omega (arith, d.0, ap height j.0),
   weaker steps (above g height a (flows.origin g s) steps j.1 d.1),
 )
   where
-    weaker : (xs : List flows.Step) → All (λ x. height (flows.origin g s) < height (flows.origin g x)) xs → All (λ x. height b < height (flows.origin g x)) xs
+    weaker : (xs : List flows.Step) → AllByRecursion (λ x. height (flows.origin g s) < height (flows.origin g x)) xs → AllByRecursion (λ x. height b < height (flows.origin g x)) xs
     weaker [] h = tt
     weaker (x ∷ xs) h = (omega (arith, h.0, d.0, ap height j.0), weaker xs h.1)
 
 -- so the cursor of its end may go on
-held_set : (g : Net) (height : ℕ → ℕ) (starts cursor : List ℕ) (b p : ℕ) (steps : List flows.Step) → All (λ s. height b < height (flows.origin g s)) steps
-    → All (Held g starts cursor) steps → All (Held g starts (set cursor b p)) steps
+held_set : (g : Net) (height : ℕ → ℕ) (starts cursor : List ℕ) (b p : ℕ) (steps : List flows.Step) → AllByRecursion (λ s. height b < height (flows.origin g s)) steps
+    → AllByRecursion (Held g starts cursor) steps → AllByRecursion (Held g starts (set cursor b p)) steps
 held_set g height starts cursor b p [] u h = tt
 held_set g height starts cursor b p (s ∷ steps) u h = (
   omega (arith, h.0, get_or-set_other cursor b (flows.origin g s) p 0 (λ e. omega (arith, u.0, ap height e))),
@@ -67,7 +67,7 @@ walk_none g f starts distance cursor a cells count none places node =
 
 module _ {g : Net} {f : ℕ → ℕ} {starts distance cursor : List ℕ} {a b : ℕ} {cells : List Step} {count : ℕ} (now : Walk g f starts distance cursor a b cells count)
   where
-    high : All (λ s. level distance b < level distance (flows.origin g s)) (trodden cells count)
+    high : AllByRecursion (λ s. level distance b < level distance (flows.origin g s)) (trodden cells count)
     high = above g (level distance) a b (trodden cells count) now.joined now.downhill
 
     -- a walk is a trail, since it uses no line twice
@@ -106,12 +106,12 @@ module _ {g : Net} {f : ℕ → ℕ} {starts distance cursor : List ℕ} {a b : 
           places = length-set cells count s ∙ now.places;
           node = target_inside g lim s leaves.inside;
           joined = subst (Joined g a (target g s)) (sym steps) (refl, subst (λ v. Joined g a v (trodden cells count)) (sym leaves.origin) now.joined);
-          inside = subst (All (λ x. flows.place x < size g)) (sym steps) (leaves.inside, now.inside);
-          room = subst (All (flows.HasRoom g f 1)) (sym steps) (has_room g f within 1 s leaves.inside (omega (arith, leads.room)), now.room);
+          inside = subst (AllByRecursion (λ x. flows.place x < size g)) (sym steps) (leaves.inside, now.inside);
+          room = subst (AllByRecursion (flows.HasRoom g f 1)) (sym steps) (has_room g f within 1 s leaves.inside (omega (arith, leads.room)), now.room);
           downhill =
               subst (Downhill g (level distance)) (sym steps) (omega (arith, leads.lower, ap (level distance) leaves.origin), now.downhill);
           held =
-              subst (All (Held g starts cursor)) (sym steps)
+              subst (AllByRecursion (Held g starts cursor)) (sym steps)
               (subst (λ v. place cursor v < row_end starts v) (sym leaves.origin) before, now.held);
           fall = omega (arith, leads.lower, now.fall);
         }
@@ -133,7 +133,7 @@ module _ {g : Net} {f : ℕ → ℕ} {starts distance cursor : List ℕ} {a b : 
                 node = origin_inside g lim (step_at cells (count - 1)) inside.0;
                 joined = joined.1;
                 inside = inside.1;
-                room = (subst (All (flows.HasRoom g f 1)) steps now.room).1;
+                room = (subst (AllByRecursion (flows.HasRoom g f 1)) steps now.room).1;
                 downhill = downhill.1;
                 held = held.1;
                 fall = omega (arith, now.fall, downhill.0, ap (level distance) joined.0);
@@ -146,11 +146,11 @@ module _ {g : Net} {f : ℕ → ℕ} {starts distance cursor : List ℕ} {a b : 
         joined : Joined g a b (step_of (step_at cells (count - 1)) ∷ trodden cells (count - 1))
         joined = subst (Joined g a b) steps now.joined
 
-        inside : All (λ x. flows.place x < size g) (step_of (step_at cells (count - 1)) ∷ trodden cells (count - 1))
-        inside = subst (All (λ x. flows.place x < size g)) steps now.inside
+        inside : AllByRecursion (λ x. flows.place x < size g) (step_of (step_at cells (count - 1)) ∷ trodden cells (count - 1))
+        inside = subst (AllByRecursion (λ x. flows.place x < size g)) steps now.inside
 
         downhill : Downhill g (level distance) (step_of (step_at cells (count - 1)) ∷ trodden cells (count - 1))
         downhill = subst (Downhill g (level distance)) steps now.downhill
 
-        held : All (Held g starts cursor) (step_of (step_at cells (count - 1)) ∷ trodden cells (count - 1))
-        held = subst (All (Held g starts cursor)) steps now.held
+        held : AllByRecursion (Held g starts cursor) (step_of (step_at cells (count - 1)) ∷ trodden cells (count - 1))
+        held = subst (AllByRecursion (Held g starts cursor)) steps now.held

@@ -1,6 +1,6 @@
 -- Walks downhill over steps with room.
 use Rattle.std.specs.Prelude.{◌≡◌, ℕ, ◌+◌, ◌-◌, ◌<◌, List, length, Some, None, Option, slice_set}
-use Rattle.std.specs.List.{AllByRecursion as All}
+use Rattle.std.specs.List.{AllByRecursion}
 use Rattle.network.specs.Net.{Net, size}
 use Rattle.flows.specs.Steps as flows
 use Rattle.flows.specs.Trails.{Joined, Downhill}
@@ -24,10 +24,10 @@ pub record Walk (g : Net) (f : ℕ → ℕ) (starts distance cursor : List ℕ) 
   pub places : length cells ≡ g.nodes
   pub node : b < g.nodes
   pub joined : Joined g a b (trodden cells count)
-  pub inside : All (λ s. flows.place s < size g) (trodden cells count)
-  pub room : All (flows.HasRoom g f 1) (trodden cells count)
+  pub inside : AllByRecursion (λ s. flows.place s < size g) (trodden cells count)
+  pub room : AllByRecursion (flows.HasRoom g f 1) (trodden cells count)
   pub downhill : Downhill g (level distance) (trodden cells count)
-  pub held : All (Held g starts cursor) (trodden cells count)
+  pub held : AllByRecursion (Held g starts cursor) (trodden cells count)
   pub fall : count + level distance b ≡ level distance a
 
 -- The walk before its last step, and what is known of the node that the step left.

@@ -1,7 +1,7 @@
 -- Pushing along a trail: the bounds stay, and only the two ends of the trail come to have another balance.
 use Rattle.std.proofs.Common.{◌≡◌, ℕ, ◌+◌, ◌-◌, ◌<◌, ◌≤◌, Bool, false, cond, eqb, List, [], ◌∷◌, length, get_or, set, sym, refl, ap, ◌∙◌, subst, add-one, arith}
 use mathlib.Core.Path.{fun_ext}
-use Rattle.std.specs.List.{AllByRecursion as All}
+use Rattle.std.specs.List.{AllByRecursion}
 use Rattle.std.proofs.lemmas.List.{length-set, get_or-set_same, get_or-set_other}
 use Rattle.std.proofs.ByRecursion.{All-weaker}
 use Rattle.std.proofs.lemmas.Bool.{cases_eq, eq-eqb, ne_eqb}
@@ -126,7 +126,7 @@ at_put s d f l = fun_ext here
     here : (i : ℕ) → at (put s d f) i ≡ moved s d (at f) i
     here i = grind (arith, cases_eq i (place s), get_or-set_same, get_or-set_other)
 
-pub at_pushed : (steps : List Step) (d : ℕ) (f : List ℕ) → All (λ s. place s < length f) steps → at (pushed steps d f) ≡ shifted steps d (at f)
+pub at_pushed : (steps : List Step) (d : ℕ) (f : List ℕ) → AllByRecursion (λ s. place s < length f) steps → at (pushed steps d f) ≡ shifted steps d (at f)
 at_pushed [] d f h = refl
 at_pushed (s ∷ steps) d f h =
     at_put s d (pushed steps d f) (omega (arith, pushed_length steps d f, h.0)) ∙ ap (moved s d) (at_pushed steps d f h.1)

@@ -1,6 +1,6 @@
 -- Trails: how they grow, why they use no line twice, and how a set of reached nodes spreads.
 use Rattle.std.proofs.Common.{◌≡◌, ℕ, zero, suc, ◌+◌, ◌<◌, ◌≤◌, Bool, true, false, cond, not, leb, List, [], ◌∷◌, sym, refl, ap, ◌∙◌, subst, inl, inr, add-one, arith}
-use Rattle.std.specs.List.{AllByRecursion as All}
+use Rattle.std.specs.List.{AllByRecursion}
 use Rattle.std.proofs.ByRecursion.{All-weaker}
 use Rattle.std.proofs.lemmas.Bool.{both_ways, cases_eq, cases_lt, and_parts, not-true, leb-true, le-leb}
 use Rattle.network.specs.Net.{Net, Line, size, line, tail, head, least, most}
@@ -24,7 +24,7 @@ trail_more {g} {d} {f} {a} {b} {steps} t s l e r new =
     }
 
 -- a trail with room for another amount
-pub trail_room : {g : Net} {d e : ℕ} {f : ℕ → ℕ} {a b : ℕ} {steps : List Step} → Trail g d f a b steps → All (HasRoom g f e) steps
+pub trail_room : {g : Net} {d e : ℕ} {f : ℕ → ℕ} {a b : ℕ} {steps : List Step} → Trail g d f a b steps → AllByRecursion (HasRoom g f e) steps
     → Trail g e f a b steps
 trail_room t r = record { joined = t.joined; inside = t.inside; room = r; once = t.once }
 
@@ -148,11 +148,11 @@ walked_same zero r s h = refl
 walked_same (suc n) r s h = cc (h n (omega arith), walked_same n r s (λ k l. h k (omega arith)))
 
 -- what holds of each step that is read holds of all that are walked, and the reverse
-pub walked_all : (P : Step → Type 0) (n : ℕ) (r : ℕ → Step) → ((k : ℕ) → k < n → P (r k)) → All P (walked r n)
+pub walked_all : (P : Step → Type 0) (n : ℕ) (r : ℕ → Step) → ((k : ℕ) → k < n → P (r k)) → AllByRecursion P (walked r n)
 walked_all P zero r h = tt
 walked_all P (suc n) r h = (h n (omega arith), walked_all P n r (λ k l. h k (omega arith)))
 
-pub walked_each : (P : Step → Type 0) (n : ℕ) (r : ℕ → Step) → All P (walked r n) → (k : ℕ) → k < n → P (r k)
+pub walked_each : (P : Step → Type 0) (n : ℕ) (r : ℕ → Step) → AllByRecursion P (walked r n) → (k : ℕ) → k < n → P (r k)
 walked_each P zero r h k l = absurd (omega arith)
 walked_each P (suc n) r h k l =
     elim (cases_eq k n) [ inl e ↦ subst (λ j. P (r j)) (sym e) h.0 | inr e ↦ walked_each P n r h.1 k (omega arith) ]

@@ -1,13 +1,13 @@
 // Runs one list of calls on the gearbox job and on a listed network of the same meaning, and prints each action of both.
 #![tactic(auto)]
 
-mod job;
+mod gear_job;
 mod print;
 mod script;
 #[cfg(test)]
 mod tests;
 
-use crate::job::{LINES, NODES, gearbox, listed_lines};
+use crate::gear_job::{LINES, NODES, gearbox, listed_lines};
 use crate::print::print_turns;
 use crate::script::script;
 use anyhow::anyhow;

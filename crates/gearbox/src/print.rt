@@ -1,5 +1,5 @@
 // Prints each call with its answer, one line each.
-use crate::job::{PARTS, SIGNS};
+use crate::gear_job::{PARTS, SIGNS};
 use layers::entry::{Bound, Entry};
 use session::turn::{Answer, Buffers, Call, Turn};
 use sift::refusal::SiftRefusal;

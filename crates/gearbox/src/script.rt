@@ -1,5 +1,5 @@
 // The calls: shaft is 14, sift, gear is not 10, sift, undo, sift.
-use crate::job::{LINES, NODES};
+use crate::gear_job::{LINES, NODES};
 use index::step::Step;
 use layers::entry::{Bound, Entry};
 use session::turn::{Buffers, Call, Turn};

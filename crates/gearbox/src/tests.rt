@@ -1,5 +1,5 @@
 // The two networks that the program runs on mean the same, line by line.
-use crate::job::{LINES, NODES, gearbox, listed_lines};
+use crate::gear_job::{LINES, NODES, gearbox, listed_lines};
 use listed::lent::Listed;
 use network::{Network, ask};
 use std::test::Fail;

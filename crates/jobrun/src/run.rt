@@ -3,8 +3,8 @@ ghost use Rattle.std.specs.Prelude.{IfOk};
 ghost use Rattle.jobfile.specs.Formed.{Formed, Room};
 ghost use Rattle.jobrun.specs.Prints.{Prints};
 
-use crate::acts::acts_of;
 use crate::fault::fault_text;
+use crate::file_acts::acts_of;
 use desk::run::run;
 use jobfile::file::JobFile;
 use jobfile::read::read;

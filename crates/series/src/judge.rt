@@ -2,7 +2,7 @@
 ghost use Rattle.std.specs.Prelude.{◌≡◌, ℕ, ◌+◌, ◌<◌, ◌≤◌, length, Decides, MatchOption};
 ghost use Rattle.series.specs.Job.{job_of, part_count, sign_count, part_at};
 ghost use Rattle.series.specs.Numbering.{judge_told, PlaceKnown, StandingKept, InMask, PartRule, SignRule, TotalRule, PartsKept, SignsKept, FirstPart, FirstSign, Verdict, Judged};
-ghost use Rattle.series.specs.Numbering.{uses as usesOf, signed as signed_of};
+ghost use Rattle.series.specs.Numbering.{uses as uses_of, signed as signed_of};
 
 use crate::lines::allowed;
 use crate::one_series::OneSeries;
@@ -56,7 +56,7 @@ fn standing_kept(standing: Standing, byte: u8) -> bool
 
 // How many parts have this sign.
 pub fn uses(bytes: &[u8], sign: usize) -> usize
-    ensures { result ≡ usesOf bytes.now sign }
+    ensures { result ≡ uses_of bytes.now sign }
 {
     let mut count = 0;
     for byte in bytes {

@@ -2,7 +2,7 @@
 ghost use Rattle.std.specs.Prelude.{◌≡◌, ◌^◌, ◌<◌, [], ◌∷◌, ◌++◌, length, ◌==◌, bit_or};
 ghost use Rattle.layers.specs.Column.{entries_of, Popped};
 ghost use Rattle.layers.specs.Named.{bit_at};
-ghost use Rattle.layers.specs.Narrow.{narrow as narrow_by, narrowed, within as withinOf};
+ghost use Rattle.layers.specs.Narrow.{narrow as narrow_by, narrowed, within as within_of};
 
 use super::Column;
 use crate::entry::{Bound, Bounds, Entry};
@@ -15,7 +15,7 @@ const BLANK: Entry = Entry {
 
 // Whether an amount lies within bounds.
 pub(crate) fn within(bounds: Bounds, amount: u16) -> bool
-    ensures { result ≡ withinOf bounds amount }
+    ensures { result ≡ within_of bounds amount }
 {
     bounds.least <= amount && amount <= bounds.most
 }

@@ -6,7 +6,7 @@ use Rattle.std.specs.List.{slice_get}
 use Rattle.contents.specs.declared.act.Act.{Act}
 use Rattle.contents.specs.declared.act.Act.TheVariants.{Undo}
 use Rattle.jobfile.specs.Contents.{acts_of}
-use Rattle.jobrun.proofs.acts.acts_of.Goals as goal
+use Rattle.jobrun.proofs.file_acts.acts_of.Goals as goal
 
 none_inside : (acts : List Act) (k : ℕ) → k < length acts → ◌≡◌ {A = Option Act} None (slice_get acts k) → ⊥
 none_inside acts k h e = let n = slice_get-get_or acts k Undo h in let z : ◌≡◌ {A = ℕ} 0 1 = cc in omega arith
