@@ -1,5 +1,5 @@
 // A list over places that the caller lends. It holds as many elements as there are places, and never moves them.
-ghost use Rattle.std.specs.Prelude.{◌≡◌, ◌+◌, ◌-◌, ◌<◌, ◌≤◌, true, ltb, length, is_ok, if◌then◌else◌, nat_lt, slice_set};
+ghost use Rattle.std.specs.Prelude.{◌≡◌, ◌+◌, ◌-◌, ◌<◌, ◌≤◌, true, length, is_ok, if◌then◌else◌, nat_lt, slice_set};
 ghost use Rattle.std.specs.List.{slice_get};
 ghost use Rattle.buffers.specs.Places.{elements, last};
 
@@ -95,7 +95,7 @@ impl<'a, T: Copy> Places<'a, T> {
         ensures lent { self.new.cells.ghost_name ≡ self.old.cells.ghost_name }
         ensures taken { result ≡ last self.old.cells.now self.old.len }
         ensures count { self.new.len ≡ self.old.len }
-        ensures written { self.new.cells.now ≡ (if ltb 0 self.old.len then slice_set self.old.cells.now (self.old.len - 1) x else self.old.cells.now) }
+        ensures written { self.new.cells.now ≡ (if nat_lt 0 self.old.len then slice_set self.old.cells.now (self.old.len - 1) x else self.old.cells.now) }
     {
         let taken = self.top();
         if self.len > 0 {

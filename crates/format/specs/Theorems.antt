@@ -1,5 +1,5 @@
 -- Theorems on the format of job files.
-use Rattle.std.specs.Prelude.{◌≡◌, ℕ, ◌^◌, ◌<◌, ◌≤◌, List, [], length, get_or, slice_index_or}
+use Rattle.std.specs.Prelude.{◌≡◌, ℕ, ◌^◌, ◌<◌, ◌≤◌, List, [], length, slice_index_or}
 use Rattle.blocks.specs.Bytes.{byte_at}
 use Rattle.series.specs.Load.{Loadable, no_record}
 use Rattle.series.specs.Sound.{no_sign}
@@ -51,10 +51,10 @@ pub record Writable (c : Contents) : Type 0 where
   pub no_acts : c.acts ≡ []
   pub name_fits : (p : ℕ) → p < length c.parts → GoodLabel 20 (slice_index_or c.labels.names p [])
   pub text_fits : (s : ℕ) → s < length c.signs → GoodLabel 8 (slice_index_or c.labels.texts s [])
-  pub standing : (p : ℕ) → p < length c.parts → (get_or c.parts p no_record).standing < 256
-  pub mask : (p : ℕ) → p < length c.parts → (get_or c.parts p no_record).mask < 2 ^ 64
-  pub least : (s : ℕ) → s < length c.signs → (get_or c.signs s no_sign).least < 256
-  pub most : (s : ℕ) → s < length c.signs → (get_or c.signs s no_sign).most < 256
+  pub standing : (p : ℕ) → p < length c.parts → (slice_index_or c.parts p no_record).standing < 256
+  pub mask : (p : ℕ) → p < length c.parts → (slice_index_or c.parts p no_record).mask < 2 ^ 64
+  pub least : (s : ℕ) → s < length c.signs → (slice_index_or c.signs s no_sign).least < 256
+  pub most : (s : ℕ) → s < length c.signs → (slice_index_or c.signs s no_sign).most < 256
   pub lo : c.lo < 256
   pub hi : c.hi < 256
   pub apart : (t s : ℕ) → t < s → s < length c.signs → SameText (slice_index_or c.labels.texts t []) (slice_index_or c.labels.texts s []) → ⊥

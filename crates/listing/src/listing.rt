@@ -25,7 +25,7 @@ fn is_short<L: Legend>(
     nodes: &[u16],
     steps: &[Step],
 ) -> bool
-    ensures { Decides result (Short (L.Network.meaning legend.now) (record { flow = flow.entry.now; verdicts = verdicts.now; bottleneck = bottleneck.now; marks = marks.now; nodes = nodes.now; steps = steps.now })) }
+    ensures { Decides result (Short (L.Network.meaning legend.now) (record { flow = flow.now; verdicts = verdicts.now; bottleneck = bottleneck.now; marks = marks.now; nodes = nodes.now; steps = steps.now })) }
 {
     let n = legend.nodes();
     let a = legend.lines();
@@ -57,7 +57,7 @@ pub fn listing<L: Legend, B: Labels>(
     nodes: &mut [u16],
     steps: &mut [Step],
 ) -> Result<usize, ListingRefusal>
-    ensures { ListsOn (L.Network.meaning legend.now) (L.Legend.key legend.now) (B.Labels.labelled labels.now) text.old text.new (record { flow = flow.entry.now; verdicts = verdicts.old; bottleneck = bottleneck.old; marks = marks.old; nodes = nodes.old; steps = steps.old }) (record { flow = flow.exit.now; verdicts = verdicts.new; bottleneck = bottleneck.new; marks = marks.new; nodes = nodes.new; steps = steps.new }) result }
+    ensures { ListsOn (L.Network.meaning legend.now) (L.Legend.key legend.now) (B.Labels.labelled labels.now) text.old text.new (record { flow = flow.old; verdicts = verdicts.old; bottleneck = bottleneck.old; marks = marks.old; nodes = nodes.old; steps = steps.old }) (record { flow = flow.exit.now; verdicts = verdicts.new; bottleneck = bottleneck.new; marks = marks.new; nodes = nodes.new; steps = steps.new }) result }
 {
     if text.len() < LISTING_TEXT {
         return Err(ListingRefusal::Short);

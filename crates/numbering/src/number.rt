@@ -62,8 +62,8 @@ pub fn number<L: Legend>(
     nodes: &mut [u16],
     steps: &mut [Step],
 ) -> Result<(), SiftRefusal>
-    ensures numbers { Numbers (L.Network.meaning legend.now) (L.Legend.key legend.now) (record { flow = flow.entry.now; verdicts = verdicts.old; bottleneck = bottleneck.old; marks = marks.old; nodes = nodes.old; steps = steps.old }) (record { flow = flow.exit.now; verdicts = verdicts.new; bottleneck = bottleneck.new; marks = marks.new; nodes = nodes.new; steps = steps.new }) numbering.old numbering.new result }
-    ensures jobs { NumbersJobs (L.Network.meaning legend.now) (L.Legend.key legend.now) (record { flow = flow.exit.now; verdicts = verdicts.new; bottleneck = bottleneck.new; marks = marks.new; nodes = nodes.new; steps = steps.new }) numbering.new result }
+    ensures numbers { Numbers (L.Network.meaning legend.now) (L.Legend.key legend.now) (record { flow = flow.old; verdicts = verdicts.old; bottleneck = bottleneck.old; marks = marks.old; nodes = nodes.old; steps = steps.old }) (record { flow = flow.new; verdicts = verdicts.new; bottleneck = bottleneck.new; marks = marks.new; nodes = nodes.new; steps = steps.new }) numbering.old numbering.new result }
+    ensures jobs { NumbersJobs (L.Network.meaning legend.now) (L.Legend.key legend.now) (record { flow = flow.new; verdicts = verdicts.new; bottleneck = bottleneck.new; marks = marks.new; nodes = nodes.new; steps = steps.new }) numbering.new result }
 {
     let parts = legend.parts();
     if numbering.len() < parts {

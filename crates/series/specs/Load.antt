@@ -1,5 +1,5 @@
 -- Loading a job from records: what is loaded, and which fault refuses it.
-use Rattle.std.specs.Prelude.{◌≡◌, ℕ, ◌^◌, ◌<◌, ◌≤◌, cond, ◌⊎◌, List, map, length, get_or, take, Some, None, Option, Result, MatchResult, ◌==◌, slice_index_or}
+use Rattle.std.specs.Prelude.{◌≡◌, ℕ, ◌^◌, ◌<◌, ◌≤◌, cond, ◌⊎◌, List, map, length, take, Some, None, Option, Result, MatchResult, ◌==◌, slice_index_or}
 use Rattle.series.specs.Job.{Job, job_of}
 use Rattle.series.specs.Sound.{no_sign, SoundSign, SoundSigns}
 use Rattle.series.specs.declared.load.LoadRefusal.{LoadRefusal}
@@ -63,8 +63,8 @@ PartFault n m parts Short = ⊥
 PartFault n m parts TooMany = ⊥
 PartFault n m parts (Sign s) = ⊥
 PartFault n m parts (Mask p) =
-    (p < n) × SoundParts p m parts × ((get_or parts p no_record).standing ≤ 2) × (2 ^ m ≤ (get_or parts p no_record).mask)
-PartFault n m parts (Standing p) = (p < n) × SoundParts p m parts × (2 < (get_or parts p no_record).standing)
+    (p < n) × SoundParts p m parts × ((slice_index_or parts p no_record).standing ≤ 2) × (2 ^ m ≤ (slice_index_or parts p no_record).mask)
+PartFault n m parts (Standing p) = (p < n) × SoundParts p m parts × (2 < (slice_index_or parts p no_record).standing)
 
 -- The sign told is the first that is not sound.
 abbrev pub SignFault : ℕ → List SignRecord → LoadRefusal → Type 0

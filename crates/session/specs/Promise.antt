@@ -1,5 +1,5 @@
 -- The promise: what holds of every list of calls made on a fresh entries layer over a network of any make.
-use Rattle.std.specs.Prelude.{◌≡◌, ℕ, ◌<◌, true, List, length, get_or, is_ok, Some, None, Err, vec_items, Result, ◌≢◌, slice_index, slice_index_or}
+use Rattle.std.specs.Prelude.{◌≡◌, ℕ, ◌<◌, true, List, length, is_ok, Some, None, Err, vec_items, Result, ◌≢◌, slice_index, slice_index_or}
 use Rattle.network.specs.Net.{Net, Same, size}
 use Rattle.network.specs.Flow.{at}
 use Rattle.layers.specs.Present.{present_net}
@@ -46,7 +46,7 @@ no_turn = record { call = Undo; answer = None }
 -- every call of a list is answered so
 pub record Played (g : Net) (before after : List Turn) : Type 0 where
   pub long : length after ≡ length before
-  pub each : (k : ℕ) → k < length before → Answered g (standing g before k) (get_or before k no_turn).call (slice_index_or after k no_turn)
+  pub each : (k : ℕ) → k < length before → Answered g (standing g before k) (slice_index_or before k no_turn).call (slice_index_or after k no_turn)
 
 -- Two sifts agree: on whether there is a lawful flow, and if there is one on every verdict and on every fixed amount.
 pub record Agree (g : Net) (v w : Workspace) (r q : Result (Unit {0}) SiftRefusal) : Type 0 where

@@ -47,7 +47,7 @@ fn sift_copy<N: Network>(
     requires marks { length marks.old ≡ (N.Network.meaning network.now).nodes }
     requires nodes { length nodes.old ≡ (N.Network.meaning network.now).nodes }
     requires steps { length steps.old ≡ (N.Network.meaning network.now).nodes }
-    ensures { Done (N.Network.meaning network.now) (record { flow = flow.exit.now; verdicts = verdicts.new; bottleneck = bottleneck.new; marks = marks.new; nodes = nodes.new; steps = steps.new }) result }
+    ensures { Done (N.Network.meaning network.now) (record { flow = flow.new; verdicts = verdicts.new; bottleneck = bottleneck.new; marks = marks.new; nodes = nodes.new; steps = steps.new }) result }
 {
     copy_lines(network, lines);
     sift_lines(
@@ -75,7 +75,7 @@ fn sift_within<N: Network, const LINES: usize, const STEPS: usize>(
     requires marks { length marks.old ≡ (N.Network.meaning network.now).nodes }
     requires nodes { length nodes.old ≡ (N.Network.meaning network.now).nodes }
     requires steps { length steps.old ≡ (N.Network.meaning network.now).nodes }
-    ensures { Done (N.Network.meaning network.now) (record { flow = flow.exit.now; verdicts = verdicts.new; bottleneck = bottleneck.new; marks = marks.new; nodes = nodes.new; steps = steps.new }) result }
+    ensures { Done (N.Network.meaning network.now) (record { flow = flow.new; verdicts = verdicts.new; bottleneck = bottleneck.new; marks = marks.new; nodes = nodes.new; steps = steps.new }) result }
 {
     let n = nodes.len();
     let a = flow.len();
@@ -123,7 +123,7 @@ fn sift_exact<N: Network>(
     requires marks { length marks.old ≡ (N.Network.meaning network.now).nodes }
     requires nodes { length nodes.old ≡ (N.Network.meaning network.now).nodes }
     requires steps { length steps.old ≡ (N.Network.meaning network.now).nodes }
-    ensures { Done (N.Network.meaning network.now) (record { flow = flow.exit.now; verdicts = verdicts.new; bottleneck = bottleneck.new; marks = marks.new; nodes = nodes.new; steps = steps.new }) result }
+    ensures { Done (N.Network.meaning network.now) (record { flow = flow.new; verdicts = verdicts.new; bottleneck = bottleneck.new; marks = marks.new; nodes = nodes.new; steps = steps.new }) result }
 {
     if flow.len() <= 512 {
         sift_within::<N, 512, 1024>(network, flow, verdicts, bottleneck, marks, nodes, steps)
@@ -144,7 +144,7 @@ pub fn sift<N: Network>(
     nodes: &mut [u16],
     steps: &mut [Step],
 ) -> Result<(), SiftRefusal>
-    ensures { Sifted (N.Network.meaning network.now) (record { flow = flow.entry.now; verdicts = verdicts.old; bottleneck = bottleneck.old; marks = marks.old; nodes = nodes.old; steps = steps.old }) (record { flow = flow.exit.now; verdicts = verdicts.new; bottleneck = bottleneck.new; marks = marks.new; nodes = nodes.new; steps = steps.new }) result }
+    ensures { Sifted (N.Network.meaning network.now) (record { flow = flow.old; verdicts = verdicts.old; bottleneck = bottleneck.old; marks = marks.old; nodes = nodes.old; steps = steps.old }) (record { flow = flow.new; verdicts = verdicts.new; bottleneck = bottleneck.new; marks = marks.new; nodes = nodes.new; steps = steps.new }) result }
 {
     let n = network.nodes();
     let a = network.lines();

@@ -40,8 +40,8 @@ fn show_flow(
     requires bottleneck { length bottleneck.old ≡ length marks.old }
     requires queue { length queue.old ≡ length marks.old }
     requires walk { length walk.old ≡ length marks.old }
-    ensures accepted { Accepted (net_of (length marks.old) lines.now) (record { flow = flow.entry.now; verdicts = verdicts.new; bottleneck = bottleneck.new; marks = marks.new; nodes = queue.new; steps = walk.new }) }
-    ensures cleared { Cleared (net_of (length marks.old) lines.now) (record { flow = flow.entry.now; verdicts = verdicts.new; bottleneck = bottleneck.new; marks = marks.new; nodes = queue.new; steps = walk.new }) }
+    ensures accepted { Accepted (net_of (length marks.old) lines.now) (record { flow = flow.old; verdicts = verdicts.new; bottleneck = bottleneck.new; marks = marks.new; nodes = queue.new; steps = walk.new }) }
+    ensures cleared { Cleared (net_of (length marks.old) lines.now) (record { flow = flow.old; verdicts = verdicts.new; bottleneck = bottleneck.new; marks = marks.new; nodes = queue.new; steps = walk.new }) }
 {
     judge_lines(lines, starts, index, flow, verdicts, marks, queue);
     blank(bottleneck, 0);
@@ -98,7 +98,7 @@ pub(crate) fn sift_lines(
     requires bottleneck { length bottleneck.old ≡ length marks.old }
     requires queue { length queue.old ≡ length marks.old }
     requires walk { length walk.old ≡ length marks.old }
-    ensures { Done (net_of (length marks.old) lines.now) (record { flow = flow.exit.now; verdicts = verdicts.new; bottleneck = bottleneck.new; marks = marks.new; nodes = queue.new; steps = walk.new }) result }
+    ensures { Done (net_of (length marks.old) lines.now) (record { flow = flow.new; verdicts = verdicts.new; bottleneck = bottleneck.new; marks = marks.new; nodes = queue.new; steps = walk.new }) result }
 {
     let nodes = marks.len();
     index_steps(nodes, lines, starts, index);

@@ -1,18 +1,8 @@
 // What the listed network answers.
-ghost use Rattle.std.specs.Prelude.{◌≡◌};
-ghost use Rattle.network.specs.Records.{line_of};
 ghost use Rattle.listed.specs.Held.{held};
 
 use super::Listed;
 use network::Network;
-use network::line_record::LineRecord;
-
-// What is told of the line that a record holds.
-fn tell(line: LineRecord) -> (u16, u16, u16, u16)
-    ensures { result ≡ line_of line }
-{
-    (line.tail, line.head, line.least, line.most)
-}
 
 impl<'a> Network for Listed<'a> {
     ghost meaning = { held };
@@ -29,6 +19,6 @@ impl<'a> Network for Listed<'a> {
 
     fn line(&self, place: usize) -> Option<(u16, u16, u16, u16)> {
         let line = self.records.get(place)?;
-        Some(tell(*line))
+        Some((line.tail, line.head, line.least, line.most))
     }
 }

@@ -1,4 +1,4 @@
-use Rattle.std.proofs.Common.{◌≤◌, length, Some, sym, ap, ◌∙◌, arith}
+use Rattle.std.proofs.Common.{◌≤◌, length, sym, ◌∙◌, arith}
 use Rattle.std.proofs.lemmas.Bool.Decides.{nat_tests}
 use Rattle.listed.proofs.Lines.{told_at, told_past}
 use Rattle.listed.proofs.lent.answers.ListedNetwork.line.Goals as goal
@@ -13,4 +13,4 @@ returns-in_err-line c =
 pub returns : goal.returns
 returns c =
     let h = c.in_ok-line.ensures.lookup in
-    ap Some c.tell.ensures ∙ sym (told_at c.args.self.now.records.now c.args.place c.in_ok-line.line.now h.3.0 h.1)
+    sym (told_at c.args.self.now.records.now c.args.place c.in_ok-line.line.now h.3.0 h.1)
