@@ -40,8 +40,8 @@ fn show_flow(
     requires bottleneck { length bottleneck.old ≡ length marks.old }
     requires queue { length queue.old ≡ length marks.old }
     requires walk { length walk.old ≡ length marks.old }
-    ensures accepted { Accepted (net_of (length marks.old) lines.now) (record { flow = flow.old; verdicts = verdicts.new; bottleneck = bottleneck.new; marks = marks.new; nodes = queue.new; steps = walk.new }) }
-    ensures cleared { Cleared (net_of (length marks.old) lines.now) (record { flow = flow.old; verdicts = verdicts.new; bottleneck = bottleneck.new; marks = marks.new; nodes = queue.new; steps = walk.new }) }
+    ensures accepted { Accepted (net_of (length marks.old) lines.now) (record { flow = flow.now; verdicts = verdicts.new; bottleneck = bottleneck.new; marks = marks.new; nodes = queue.new; steps = walk.new }) }
+    ensures cleared { Cleared (net_of (length marks.old) lines.now) (record { flow = flow.now; verdicts = verdicts.new; bottleneck = bottleneck.new; marks = marks.new; nodes = queue.new; steps = walk.new }) }
 {
     judge_lines(lines, starts, index, flow, verdicts, marks, queue);
     blank(bottleneck, 0);
