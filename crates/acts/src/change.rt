@@ -19,7 +19,7 @@ pub enum Change {
     Undo,
 }
 
-// The change that an act asks for; none for a query.
+// The change that an act asks for; none for a query, which is no failure, as a TryFrom would tell it.
 pub fn change_of(act: Act) -> Option<Change>
     ensures { result ≡ change_of act }
 {

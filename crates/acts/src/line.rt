@@ -7,6 +7,7 @@ ghost use Rattle.text.specs.Placed.{Placed};
 use crate::act::act;
 use crate::change::Change;
 use crate::refusal::ActRefusal;
+use buffers::places::Places;
 use layers::entries::Entries;
 use network::legend::Legend;
 use text::{put, put_byte, put_number};
@@ -19,19 +20,24 @@ pub fn put_accepted(text: &mut [u8], number: usize) -> usize
     requires { 24 ≤ length text.old }
     ensures { Placed text.old 0 (accepted_line number) text.new result }
 {
-    let at = put_number(text, 0, number);
-    put(text, at, b" OK\n")
+    let mut line = Places::new(text);
+    put_number(&mut line, number);
+    put(&mut line, b" OK\n");
+    line.len()
 }
 
-// The line of an act with this number that was refused.
+// The line of an act with this number that was refused. It tells the number of a refusal, whose enum may be another crate's: that of a listing is.
 pub fn put_refused(text: &mut [u8], number: usize, refusal: u8) -> usize
-    requires { (24 ≤ length text.old) × (refusal < 100) }
+    requires room { 24 ≤ length text.old }
+    requires short { refusal < 100 }
     ensures { Placed text.old 0 (refused_line number refusal) text.new result }
 {
-    let behind_number = put_number(text, 0, number);
-    let behind_space = put_byte(text, behind_number, b' ');
-    let behind_refusal = put_number(text, behind_space, refusal as usize);
-    put_byte(text, behind_refusal, b'\n')
+    let mut line = Places::new(text);
+    put_number(&mut line, number);
+    put_byte(&mut line, b' ');
+    put_number(&mut line, usize::from(refusal));
+    put_byte(&mut line, b'\n');
+    line.len()
 }
 
 // The line of an act with this answer.

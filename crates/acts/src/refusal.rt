@@ -1,6 +1,7 @@
 // Why an act is refused.
 ghost use Rattle.std.specs.Prelude.{◌≡◌};
 ghost use Rattle.acts.specs.Changes.{act_number};
+ghost use Rattle.acts.specs.declared.refusal.ActRefusal.TheVariants.{Lay, Undo};
 
 use layers::entries::{LayRefusal, UndoRefusal};
 
@@ -14,6 +15,23 @@ pub enum ActRefusal {
     Lay(LayRefusal),
     // nothing is undone
     Undo(UndoRefusal),
+}
+
+// Both by hand: the contracts of `?` go by `from_gives`, and the derive of `thiserror` gives none.
+impl From<LayRefusal> for ActRefusal {
+    ghost from_gives = { λ why r. r ≡ Lay why };
+
+    fn from(why: LayRefusal) -> ActRefusal {
+        ActRefusal::Lay(why)
+    }
+}
+
+impl From<UndoRefusal> for ActRefusal {
+    ghost from_gives = { λ why r. r ≡ Undo why };
+
+    fn from(why: UndoRefusal) -> ActRefusal {
+        ActRefusal::Undo(why)
+    }
 }
 
 impl ActRefusal {

@@ -1,5 +1,5 @@
 pub mod Cursors
 pub mod Room
 pub mod Walks
-pub mod Descent
+pub mod Downhill
 pub mod Pushing

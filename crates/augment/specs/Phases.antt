@@ -1,33 +1,34 @@
 -- A phase: pushes from the reached nodes, while the levels stand.
-use Rattle.std.specs.Prelude.{◌≡◌, ℕ, ◌<◌, ◌≤◌, Bool, true, List, length}
-use Rattle.network.specs.Net.{Net, Limits}
+use Rattle.std.specs.Prelude.{◌≡◌, ℕ, ◌<◌, ◌≤◌, Bool, true, length}
 use Rattle.network.specs.Flow.{at}
-use Rattle.flows.specs.Bounds.{Mending}
-use Rattle.index.specs.Rows.{Indexed}
-use Rattle.index.specs.declared.step.Step.{Step}
+use Rattle.index.specs.declared.graph.Graph.{Graph}
 use Rattle.augment.specs.Cursors.{Cursors, Fresh}
 use Rattle.augment.specs.Pushes.{total}
+use Rattle.augment.specs.Repairs.{SameMemory}
+use Rattle.augment.specs.declared.descent.Descent.{Descent}
+use Rattle.augment.specs.declared.repair.Repair.{Repair}
 
--- What holds of a phase from its beginning to its end.
-pub record Phase (g : Net) (starts : List ℕ) (index : List Step) (distance flow spare lack cursor : List ℕ) (cells : List Step) : Type 0 where
-  pub limits : Limits g
-  pub indexed : Indexed g starts index
-  pub mending : Mending g flow (at spare) (at lack)
-  pub spares : length spare ≡ g.nodes
-  pub lacks : length lack ≡ g.nodes
-  pub levels : length distance ≡ g.nodes
-  pub cursors : Cursors g starts cursor
-  pub places : length cells ≡ g.nodes
+-- A descent over this network: a level and a cursor for each node, and a place of the walk, with each cursor in its row.
+pub record Ready (graph : Graph) (descent : Descent) : Type 0 where
+  pub levels : length descent.distance.now ≡ graph.nodes
+  pub cursors : Cursors graph descent.cursor.now
+  pub places : length descent.walk.cells.now ≡ graph.nodes
+
+-- The descent goes on, with the levels that it had.
+pub record StillReady (graph : Graph) (before after : Descent) : Type 0 where
+  pub levels : after.distance.now ≡ before.distance.now
+  pub ready : Ready graph after
 
 -- An attempt to push from node a: where it succeeds less is to spare, at a and in all, and it succeeds unless some cursor had
 -- passed a step down.
-pub record Attempted (g : Net) (starts : List ℕ) (index : List Step) (distance flow spare lack cursor : List ℕ) (a : ℕ) (spare' : List ℕ) (success : Bool) : Type 0 where
-  pub sure : Fresh g (at flow) (at lack) starts index distance cursor → success ≡ true
-  pub falls : success ≡ true → total g.nodes spare' < total g.nodes spare
-  pub less : success ≡ true → at spare' a < at spare a
-  pub most : total g.nodes spare' ≤ total g.nodes spare
+pub record Attempted (repair : Repair) (descent : Descent) (a : ℕ) (repair' : Repair) (success : Bool) : Type 0 where
+  pub sure : Fresh repair.graph (at repair.flow.now) (at repair.lack.now) descent.distance.now descent.cursor.now → success ≡ true
+  pub falls : success ≡ true → total repair.graph.nodes repair'.spare.now < total repair.graph.nodes repair.spare.now
+  pub less : success ≡ true → at repair'.spare.now a < at repair.spare.now a
+  pub most : total repair.graph.nodes repair'.spare.now ≤ total repair.graph.nodes repair.spare.now
 
--- While node a, or one node after another, is drained: the phase goes on, and no more is to spare than was.
-pub record Draining (g : Net) (starts : List ℕ) (index : List Step) (distance spare flow' spare' lack' cursor' : List ℕ) (cells' : List Step) : Type 0 where
-  pub phase : Phase g starts index distance flow' spare' lack' cursor' cells'
-  pub most : total g.nodes spare' ≤ total g.nodes spare
+-- While node a, or one node after another, is drained: the repair and the descent go on, and no more is to spare than was.
+pub record Draining (repair : Repair) (descent : Descent) (repair' : Repair) (descent' : Descent) : Type 0 where
+  pub memory : SameMemory repair repair'
+  pub ready : StillReady repair.graph descent descent'
+  pub most : total repair.graph.nodes repair'.spare.now ≤ total repair.graph.nodes repair.spare.now

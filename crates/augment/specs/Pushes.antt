@@ -3,7 +3,6 @@ use Rattle.std.specs.Prelude.{◌≡◌, ℕ, ◌<◌, ◌≤◌, List, length}
 use Rattle.network.specs.Net.{Net, Limits, size}
 use Rattle.network.specs.Flow.{at}
 use Rattle.network.specs.Sum.{upto}
-use Rattle.flows.specs.Bounds.{Mending}
 use Rattle.flows.specs.Steps as flows
 use Rattle.flows.specs.Trails.{Trail}
 use Rattle.index.specs.Rows.{step_at}
@@ -29,8 +28,7 @@ pub record Passable (amount : ℕ) (flow : List ℕ) (steps : List flows.Step) :
 abbrev pub total : ℕ → List ℕ → ℕ
 total n spare = upto n (at spare)
 
--- A push from node a: the flow goes on mending, and less is to spare, at a and in all.
-pub record Pushed (g : Net) (a : ℕ) (spare flow' spare' lack' : List ℕ) : Type 0 where
-  pub mends : Mending g flow' (at spare') (at lack')
-  pub falls : total g.nodes spare' < total g.nodes spare
+-- A push from node a: less is to spare, at a and in all.
+pub record Pushed (n a : ℕ) (spare spare' : List ℕ) : Type 0 where
+  pub falls : total n spare' < total n spare
   pub less : at spare' a < at spare a

@@ -1,6 +1,8 @@
 // Walks from nodes with something to spare down to lacking nodes, and pushes along them.
 #![tactic(auto)]
 
-pub mod phase;
+mod descent;
+mod phase;
 mod push;
+pub mod repair;
 mod walk;

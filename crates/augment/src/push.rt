@@ -1,45 +1,29 @@
 // Pushes along a walk: as much as its start has to spare, its end lacks, and every step has room for.
-ghost use Rattle.std.specs.Prelude.{◌≡◌, ℕ, ◌+◌, ◌-◌, ◌<◌, ◌≤◌, true, false, length};
-ghost use Rattle.network.specs.Net.{Limits};
+ghost use Rattle.std.specs.Prelude.{◌≡◌, ℕ, ◌+◌, ◌-◌, ◌<◌, ◌≤◌, true, false, length, slice_set};
+ghost use Rattle.network.specs.Net.{size};
 ghost use Rattle.network.specs.Flow.{at};
-ghost use Rattle.network.specs.Records.{net_of};
-ghost use Rattle.flows.specs.Bounds.{Mending, Within};
 ghost use Rattle.flows.specs.Steps.{along, pushed, put};
 ghost use Rattle.flows.specs.Trails.{Trail};
+ghost use Rattle.index.specs.Graph.{net};
 ghost use Rattle.index.specs.Rows.{step_at};
 ghost use Rattle.reach.specs.Room.{step_of};
 ghost use Rattle.augment.specs.Walks.{trodden};
+ghost use Rattle.augment.specs.Repairs.{SameMemory};
 ghost use Rattle.augment.specs.Pushes.{Narrowest, Passable, Pushed};
 
+use crate::repair::Repair;
 use buffers::places::Places;
 use index::step::Step;
-use network::line_record::LineRecord;
 use reach::room::room;
 
-// The step at a place of the walk.
-fn step_at(walk: &Places<'_, Step>, place: usize) -> Step
-    requires { place < walk.now.len }
-    ensures { result ≡ step_at walk.now.cells.now place }
-{
-    match walk.get(place) {
-        Some(step) => step,
-        None => unreachable(),
-    }
-}
-
 // What every step of the walk has room for, and no more than the limit.
-fn narrowest(lines: &[LineRecord], flow: &[u32], walk: &Places<'_, Step>, limit: u32) -> u32
-    requires long { length flow.now ≡ length lines.now }
-    requires bounds { Within (net_of 0 lines.now) (at flow.now) }
-    requires inside { (k : ℕ) → k < walk.now.len → (step_at walk.now.cells.now k).line < length lines.now }
-    ensures { Narrowest (net_of 0 lines.now) (at flow.now) walk.now.cells.now walk.now.len limit result }
+fn narrowest(repair: &Repair<'_, '_>, walk: &Places<'_, Step>, limit: u32) -> u32
+    requires { (k : ℕ) → k < walk.now.len → (step_at walk.now.cells.now k).line < size (net repair.now.graph) }
+    ensures { Narrowest (net repair.now.graph) (at repair.now.flow.now) walk.now.cells.now walk.now.len limit result }
 {
     let mut amount = limit;
-    for k in 0..walk.len() {
-        let here = room(step_at(walk, k), lines, flow);
-        if here < amount {
-            amount = here;
-        }
+    for step in walk.elements() {
+        amount = amount.min(room(*step, repair.graph.lines(), repair.flow));
     }
     amount
 }
@@ -64,35 +48,49 @@ fn push_along(flow: &mut [u32], walk: &Places<'_, Step>, amount: u32)
     requires { Passable amount flow.old (trodden walk.now.cells.now walk.now.len) }
     ensures { flow.new ≡ pushed (trodden walk.now.cells.now walk.now.len) amount flow.old }
 {
-    for k in 0..walk.len() {
-        carry(flow, step_at(walk, k), amount);
+    for step in walk.elements() {
+        carry(flow, *step, amount);
     }
 }
 
-// Moves as much as can be moved over the walk, from the node where it starts to the one where it ends.
-pub fn push(
-    nodes: usize,
-    lines: &[LineRecord],
+// Moves an amount over the walk, off what its start has to spare and what its end lacks.
+fn transfer(
     flow: &mut [u32],
     spare: &mut [u32],
     lack: &mut [u32],
     walk: &Places<'_, Step>,
     from: usize,
     to: usize,
+    amount: u32,
 )
-    requires limits { Limits (net_of nodes lines.now) }
-    requires mending { Mending (net_of nodes lines.now) flow.old (at spare.old) (at lack.old) }
-    requires spare { length spare.old ≡ nodes }
-    requires lack { length lack.old ≡ nodes }
-    requires from { from < nodes }
-    requires to { to < nodes }
-    requires much { 0 < at spare.old from }
-    requires little { 0 < at lack.old to }
-    requires trail { Trail (net_of nodes lines.now) 1 (at flow.old) from to (trodden walk.now.cells.now walk.now.len) }
-    ensures { Pushed (net_of nodes lines.now) from spare.old flow.new spare.new lack.new }
+    requires walk { Passable amount flow.old (trodden walk.now.cells.now walk.now.len) }
+    requires from { from < length spare.old }
+    requires to { to < length lack.old }
+    requires spare { amount ≤ at spare.old from }
+    requires lack { amount ≤ at lack.old to }
+    ensures flow { flow.new ≡ pushed (trodden walk.now.cells.now walk.now.len) amount flow.old }
+    ensures spare { spare.new ≡ slice_set spare.old from (at spare.old from - amount) }
+    ensures lack { lack.new ≡ slice_set lack.old to (at lack.old to - amount) }
 {
-    let amount = narrowest(lines, flow, walk, spare[from].min(lack[to]));
     push_along(flow, walk, amount);
     spare[from] -= amount;
     lack[to] -= amount;
+}
+
+impl Repair<'_, '_> {
+    // Moves as much as can be moved over the walk, from the node where it starts to the one where it ends.
+    pub(crate) fn push(&mut self, walk: &Places<'_, Step>, from: usize, to: usize)
+        requires from { from < self.old.graph.nodes }
+        requires to { to < self.old.graph.nodes }
+        requires much { 0 < at self.old.spare.now from }
+        requires little { 0 < at self.old.lack.now to }
+        requires trail { Trail (net self.old.graph) 1 (at self.old.flow.now) from to (trodden walk.now.cells.now walk.now.len) }
+        ensures memory { SameMemory self.old self.new }
+        ensures pushed { Pushed self.old.graph.nodes from self.old.spare.now self.new.spare.now }
+    {
+        let limit = self.spare[from].min(self.lack[to]);
+        let amount = narrowest(self, walk, limit);
+        // in one call, as the amounts fit together again only when all three are changed
+        transfer(self.flow, self.spare, self.lack, walk, from, to, amount);
+    }
 }

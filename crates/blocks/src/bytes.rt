@@ -6,33 +6,29 @@ ghost use Rattle.blocks.specs.Bytes.{byte_at, number_at, Zeros, part_at};
 pub fn byte(bytes: &[u8], place: usize) -> u8
     ensures { result ≡ byte_at bytes.now place }
 {
-    if place < bytes.len() { bytes[place] } else { 0 }
+    bytes.get(place).copied().unwrap_or(0)
 }
 
 // The number that two bytes make, the highest first.
 pub fn two_bytes(high: u8, low: u8) -> u16
     ensures { result ≡ number_at 2 (high ∷ low ∷ []) 0 }
 {
-    u16::from(high) * 256 + u16::from(low)
+    u16::from_be_bytes([high, low])
 }
 
 // So many bytes from a place on, as far as there are any.
 pub fn part(bytes: &[u8], from: usize, size: usize) -> &[u8]
     ensures { result.now ≡ part_at size bytes.now from }
 {
-    let start = from.min(bytes.len());
-    let end = start + size.min(bytes.len() - start);
-    &bytes[start..end]
+    let rest = bytes.get(from..).unwrap_or_default();
+    rest.get(..size).unwrap_or(rest)
 }
 
 // Whether the bytes from one place up to another are zero.
 pub fn zeros(bytes: &[u8], from: usize, to: usize) -> bool
     ensures { Decides result (Zeros from to bytes.now) }
 {
-    for place in from..to {
-        if byte(bytes, place) != 0 {
-            return false;
-        }
-    }
-    true
+    part(bytes, from, to.saturating_sub(from))
+        .iter()
+        .all(|byte| *byte == 0)
 }

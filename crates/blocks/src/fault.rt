@@ -11,6 +11,7 @@ pub enum BlockFault {
 }
 
 impl BlockFault {
+    // The numbers of refusals are the product's own, so each variant has its own here.
     pub fn number(self) -> u8
         ensures { result ≡ (block_told self).0 }
     {

@@ -13,9 +13,7 @@ fn clear(bytes: &mut [u8], count: usize)
     requires { count ≤ length bytes.old }
     ensures { bytes.new ≡ cleared bytes.old count }
 {
-    for i in 0..count {
-        bytes[i] = 0;
-    }
+    bytes[..count].fill(0);
 }
 
 impl<'a> Marks<'a> {
@@ -34,7 +32,9 @@ impl<'a> Marks<'a> {
     pub fn is_marked(&self, node: usize) -> bool
         ensures { result ≡ marked self.now.bytes.now self.now.count node }
     {
-        node < self.count && self.bytes[node] != 0
+        self.bytes[..self.count]
+            .get(node)
+            .is_some_and(|byte| *byte != 0)
     }
 
     // Marks the node, and says whether it was blank; changes nothing from `count` up.

@@ -32,32 +32,41 @@ impl<'a, T: Copy> Places<'a, T> {
         Places { cells, len: 0 }
     }
 
+    // The list of the first so many places, which hold its elements already.
+    pub fn holding(cells: &'a mut [T], len: usize) -> Places<'a, T>
+        requires { len ≤ length cells.old }
+        ensures count { result.len ≡ len }
+        ensures lent { result.cells.ghost_name ≡ cells.entry.ghost_name }
+        ensures kept { result.cells.now ≡ cells.old }
+    {
+        Places { cells, len }
+    }
+
     pub fn len(&self) -> usize
         ensures { result ≡ self.now.len }
     {
         self.len
     }
 
+    // The elements, in order.
+    pub fn elements(&self) -> &[T]
+        ensures { result.now ≡ elements self.now.cells.now self.now.len }
+    {
+        &self.cells[..self.len]
+    }
+
     // The element at this place; none from the length up.
     pub fn get(&self, place: usize) -> Option<T>
         ensures { result ≡ slice_get (elements self.now.cells.now self.now.len) place }
     {
-        if place < self.len {
-            self.cells.get(place).copied()
-        } else {
-            None
-        }
+        self.elements().get(place).copied()
     }
 
     // The last element; none in an empty list.
     pub fn top(&self) -> Option<T>
         ensures { result ≡ last self.now.cells.now self.now.len }
     {
-        if self.len == 0 {
-            None
-        } else {
-            self.get(self.len - 1)
-        }
+        self.elements().last().copied()
     }
 
     // Adds an element at the end; refused where every place is in use, and then nothing changes.
@@ -67,13 +76,12 @@ impl<'a, T: Copy> Places<'a, T> {
         ensures count { self.new.len ≡ (if is_ok result then self.old.len + 1 else self.old.len) }
         ensures written { self.new.cells.now ≡ (if is_ok result then slice_set self.old.cells.now self.old.len x else self.old.cells.now) }
     {
-        if self.len < self.cells.len() {
-            self.cells[self.len] = x;
-            self.len += 1;
-            Ok(())
-        } else {
-            Err(Full)
+        if self.len == self.cells.len() {
+            return Err(Full);
         }
+        self.cells[self.len] = x;
+        self.len += 1;
+        Ok(())
     }
 
     // Takes the last element off the list, and leaves its place as it is.
@@ -83,11 +91,9 @@ impl<'a, T: Copy> Places<'a, T> {
         ensures count { self.new.len ≡ self.old.len - 1 }
         ensures kept { self.new.cells.now ≡ self.old.cells.now }
     {
-        let taken = self.top();
-        if self.len > 0 {
-            self.len -= 1;
-        }
-        taken
+        let taken = self.top()?;
+        self.len -= 1;
+        Some(taken)
     }
 
     // Puts an element in the place of the last one, which it gives back; nothing changes in an empty list.
@@ -97,11 +103,9 @@ impl<'a, T: Copy> Places<'a, T> {
         ensures count { self.new.len ≡ self.old.len }
         ensures written { self.new.cells.now ≡ (if nat_lt 0 self.old.len then slice_set self.old.cells.now (self.old.len - 1) x else self.old.cells.now) }
     {
-        let taken = self.top();
-        if self.len > 0 {
-            self.cells[self.len - 1] = x;
-        }
-        taken
+        let taken = self.top()?;
+        self.cells[self.len - 1] = x;
+        Some(taken)
     }
 
     // Empties the list, and leaves every place as it is.

@@ -1,3 +1,4 @@
+pub mod Lines
 pub mod Sums
 pub mod Gathering
 pub mod Stuck

@@ -1,5 +1,5 @@
 -- The nodes that a search from the lacking nodes does not reach, one of them with something to spare, are a bottleneck.
-use Rattle.std.proofs.Common.{◌≡◌, ℕ, ◌<◌, ◌≤◌, true, cond, ltb, ◌⊎◌, List, length, get_or, sym, refl, ap, ◌∙◌, subst, inl, inr, arith}
+use Rattle.std.proofs.Common.{◌≡◌, ℕ, ◌<◌, ◌≤◌, true, cond, ltb, ◌⊎◌, List, length, get_or, refl, ap, ◌∙◌, inl, inr, arith}
 use Rattle.std.proofs.lemmas.Bool.{cases_lt, lt-ltb, le-ltb, eq-eqb, eqb-true}
 use Rattle.network.specs.Net.{Net, Limits, line, tail, head}
 use Rattle.network.specs.Flow.{at, demand, supply, Bottleneck}
@@ -7,9 +7,7 @@ use Rattle.flows.specs.Bounds.{Mending, AllShut}
 use Rattle.flows.proofs.Mend.{stuck}
 use Rattle.flows.proofs.Trails.{shut_by}
 use Rattle.reach.specs.Levels.{level, Levelled}
-use Rattle.circulation.specs.declared.outcome.Outcome.{Outcome}
-use Rattle.circulation.specs.declared.outcome.Outcome.TheVariants as outcome
-use Rattle.circulation.specs.Answers.{members, Right}
+use Rattle.circulation.specs.Answers.{members, Shows}
 
 module _ (g : Net) (distance bytes : List ℕ) (marks : (v : ℕ) → v < g.nodes → get_or bytes v 0 ≡ cond (ltb (level distance v) g.nodes) 0 1) where
   -- a byte is 1 exactly where the node is not reached
@@ -58,9 +56,8 @@ module _ (g : Net) (distance bytes : List ℕ) (marks : (v : ℕ) → v < g.node
             | inr h ↦ omega arith
           ]
 
-  -- so the bytes, with the sums, are a right answer
-  pub shown : length bytes ≡ g.nodes → Bottleneck g (members bytes) → (flow : List ℕ) (r : Outcome) → r ≡ outcome.Bottleneck (demand g (members bytes)) (supply g (members bytes))
-      → Right g flow bytes r
-  shown long narrow flow r e =
-      subst (Right g flow bytes) (sym e)
-      (record { binary = λ v l. marks_binary v (omega arith); bottleneck = narrow; demand = refl; supply = refl })
+  -- so the bytes, with the sums, show a bottleneck
+  pub shown : length bytes ≡ g.nodes → Bottleneck g (members bytes) → (demanded supplied : ℕ) → demanded ≡ demand g (members bytes)
+      → supplied ≡ supply g (members bytes) → Shows g bytes demanded supplied
+  shown long narrow demanded supplied d s =
+      record { binary = λ v l. marks_binary v (omega arith); bottleneck = narrow; demand = d; supply = s }

@@ -1,10 +1,9 @@
 -- What a circulation answers: a lawful flow, or a bottleneck with its demand and supply.
-use Rattle.std.specs.Prelude.{◌≡◌, ℕ, ◌<◌, ◌≤◌, Bool, true, false, ◌⊎◌, List, length, Some, None, Option, ◌==◌, slice_index}
+use Rattle.std.specs.Prelude.{◌≡◌, ℕ, ◌<◌, ◌≤◌, Bool, true, false, ◌⊎◌, List, length, Some, None, Option, Ok, Err, Result, ◌==◌, slice_index}
 use Rattle.network.specs.Net.{Net}
 use Rattle.network.specs.Flow as flows
 use Rattle.reach.specs.Levels.{level}
-use Rattle.circulation.specs.declared.outcome.Outcome.{Outcome}
-use Rattle.circulation.specs.declared.outcome.Outcome.TheVariants.{Flow, Bottleneck}
+use Rattle.circulation.specs.declared.bottleneck.Bottleneck.{Bottleneck}
 
 -- the nodes whose byte is 1
 abbrev pub members : List ℕ → ℕ → Bool
@@ -18,9 +17,9 @@ pub record Shows (g : Net) (bytes : List ℕ) (demanded supplied : ℕ) : Type 0
   pub supply : supplied ≡ flows.supply g (members bytes)
 
 -- the answer is right: the flow is lawful, or the bytes show a bottleneck, so that there is no lawful flow
-abbrev pub Right : Net → List ℕ → List ℕ → Outcome → Type 0
-Right g flow bytes Flow = flows.Lawful g flow
-Right g flow bytes (Bottleneck demanded supplied) = Shows g bytes demanded supplied
+abbrev pub Right : Net → List ℕ → List ℕ → Result (Unit {0}) Bottleneck → Type 0
+Right g flow bytes (Ok _) = flows.Lawful g flow
+Right g flow bytes (Err b) = Shows g bytes b.demand b.supply
 
 -- Some node has something to spare.
 pub record Unsettled (n : ℕ) (spare : List ℕ) : Type 0 where

@@ -27,7 +27,7 @@ pub(crate) fn append_accepted(transcript: &mut Vec<u8>, number: usize) -> Result
     append_front(transcript, &line, written)
 }
 
-// The line of a refused act.
+// The line of a refused act, told by the number of its refusal, whichever enum that is of.
 pub(crate) fn append_refused(
     transcript: &mut Vec<u8>,
     number: usize,

@@ -6,11 +6,7 @@ use index::step::Step;
 use listing::listing::listing;
 use listing::refusal::ListingRefusal;
 use network::legend::Legend;
-
-const NO_STEP: Step = Step {
-    line: 0,
-    direction: 0,
-};
+use sift::memory::Memory;
 
 // Lists with the memory that the largest network needs.
 pub(crate) fn list<L: Legend, B: Labels>(
@@ -25,16 +21,14 @@ pub(crate) fn list<L: Legend, B: Labels>(
     let mut bottleneck = [0u8; 1024];
     let mut marks = [0u8; 1024];
     let mut nodes = [0u16; 1024];
-    let mut steps = [NO_STEP; 1024];
-    listing(
-        legend,
-        labels,
-        text,
-        &mut flow,
-        &mut verdicts,
-        &mut bottleneck,
-        &mut marks,
-        &mut nodes,
-        &mut steps,
-    )
+    let mut steps = [Step::default(); 1024];
+    let mut memory = Memory {
+        flow: &mut flow,
+        verdicts: &mut verdicts,
+        bottleneck: &mut bottleneck,
+        marks: &mut marks,
+        nodes: &mut nodes,
+        steps: &mut steps,
+    };
+    listing(legend, labels, text, &mut memory)
 }

@@ -21,8 +21,8 @@ pub fn run<L: Legend + Drop, B: Labels>(
 {
     let mut layer = Entries::new(legend);
     let mut transcript = Vec::new(heap);
-    for k in 0..acts.len() {
-        step(&mut layer, labels, k + 1, acts[k], &mut transcript)?;
+    for (k, act) in acts.iter().enumerate() {
+        step(&mut layer, labels, k + 1, *act, &mut transcript)?;
     }
     Ok(transcript)
 }

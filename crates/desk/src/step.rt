@@ -35,7 +35,7 @@ fn change<L: Legend, B: Labels>(
     }
 }
 
-// A query.
+// A query. It is asked as `change` is, but reads the layer alone.
 fn query<L: Legend, B: Labels>(
     layer: &Entries<L>,
     labels: &B,

@@ -1,139 +1,156 @@
 // Jobs compared with the sift: all their numberings, under entries too.
-use crate::lines::{Lines, Seen};
-use crate::networks::sift_all;
+ghost use Rattle.std.specs.Prelude.{◌<◌};
+
+use crate::lines::bounds_kept;
 use crate::random::Random;
-use crate::small_job::{Job, MOST};
+use crate::sifted::Sifted;
+use crate::small_job::Job;
 use crate::tally::Tally;
+use anyhow::anyhow;
+use itertools::Itertools;
 use job::closed_job;
 use layers::closing::Closing;
 use layers::entries::Entries;
 use layers::entry::{Bound, Entry};
-use network::Network;
+use network::line_record::LineRecord;
 use series::one_series::OneSeries;
-use series::records::{PartRecord, SignRecord};
+use series::records::{Part, PartRecord, SignRecord, Standing};
+use std::alloc::{AllocError, Global};
+use std::iter;
 
-// All lawful numberings that keep the bounds of the lines, which entries may have made narrower.
-pub fn all_numberings(job: &Job, lines: &Lines) -> Seen {
-    let mut seen = Seen::new();
-    for code in 0..job.ways() {
-        let bytes = job.numbering(code);
-        let amounts = job.carried(&bytes);
-        if job.is_lawful(&bytes) && lines.bounds_kept(&amounts) {
-            seen.add(&amounts);
+// The flows of all lawful numberings that keep the bounds of the lines, which entries may have made narrower.
+fn all_numberings(
+    alloc: Global,
+    job: &Job,
+    lines: &[LineRecord],
+) -> Result<Vec<Vec<usize>>, AllocError> {
+    let signs = (0..job.signs.len())
+        .map(Some)
+        .chain(iter::once(None))
+        .collect_vec(alloc)?;
+    let choices = job.parts.iter().map(|_| signs.iter().copied());
+    let mut flows = Vec::new(alloc);
+    for numbering in choices.multi_cartesian_product(alloc)? {
+        let numbering = numbering?;
+        if job.is_lawful(&numbering) {
+            let flow = job.carried(alloc, &numbering)?;
+            if bounds_kept(lines, &flow) {
+                flows.push(flow)?;
+            }
         }
     }
-    seen
+    Ok(flows)
 }
 
-fn part_records(job: &Job) -> [PartRecord; MOST] {
-    let mut parts = [PartRecord {
-        mask: 0,
-        standing: 0,
-    }; MOST];
-    for place in 0..MOST {
-        parts[place] = PartRecord {
-            mask: job.masks[place],
-            standing: job.standings[place],
-        };
+fn record_of(part: &Part) -> PartRecord {
+    PartRecord {
+        mask: part.mask,
+        standing: part.standing as u8,
     }
-    parts
 }
 
-fn sign_records(job: &Job) -> [SignRecord; MOST] {
-    let mut signs = [SignRecord { least: 0, most: 0 }; MOST];
-    for place in 0..MOST {
-        let (least, most) = job.bounds[place];
-        signs[place] = SignRecord { least, most };
-    }
-    signs
-}
-
-fn loaded(job: &Job) -> Option<Closing<OneSeries>> {
-    let parts = part_records(job);
-    let signs = sign_records(job);
+fn loaded(alloc: Global, job: &Job) -> anyhow::Result<Closing<OneSeries>> {
+    let parts: Vec<PartRecord> = job.parts.iter().map(record_of).collect(alloc)?;
     let mut series = OneSeries::new();
-    if series
-        .load(job.parts(), job.signs(), &parts, &signs)
-        .is_err()
-    {
-        return None;
-    }
-    closed_job(series, u16::from(job.lo), u16::from(job.hi)).ok()
+    series
+        .load(parts.len(), job.signs.len(), &parts, &job.signs)
+        .map_err(|refusal| anyhow!("a job is refused with {}", refusal.number()))?;
+    closed_job(series, job.lo, job.hi).map_err(|refusal| anyhow!(
+        "a total is refused with {}",
+        refusal.number()
+    ))
 }
 
-// Lays an entry, and narrows the line by it if it was accepted.
-fn enter(layer: &mut Entries<Closing<OneSeries>>, lines: &mut Lines, random: &mut Random) {
-    let count = (lines.count & 0xff) as u32;
-    let line = random.below(count) as usize;
-    let amount = (random.below(3) & 0xff) as u16;
-    let (bound, least, most) = if random.below(2) == 0 {
-        (Bound::AtLeast, u32::from(amount), u32::MAX)
+// Lays an entry, and narrows its line by it if it was accepted.
+fn enter(layer: &mut Entries<Closing<OneSeries>>, lines: &mut [LineRecord], random: &mut Random) {
+    let line = random.below(lines.len());
+    let amount = random.below(3) as u16;
+    let bound = if random.below(2) == 0 {
+        Bound::AtLeast
     } else {
-        (Bound::AtMost, 0, u32::from(amount))
+        Bound::AtMost
     };
-    let answer = layer.lay(Entry {
+    let entry = Entry {
         line,
         bound,
         amount,
-    });
-    if answer.is_ok() {
-        lines.narrow(line, least, most);
+    };
+    if layer.lay(entry).is_ok()
+        && let Some(line) = lines.get_mut(line)
+    {
+        match bound {
+            Bound::AtLeast => line.least = line.least.max(amount),
+            Bound::AtMost => line.most = line.most.min(amount),
+        }
     }
 }
 
 // Compares a job under so many entries that are tried; the number of its lawful numberings under them.
-pub fn compare_job(job: &Job, entries: u32, random: &mut Random, tally: &mut Tally) -> u32 {
-    let Some(closed) = loaded(job) else {
-        tally.wrong = tally.wrong.saturating_add(1);
-        return 0;
-    };
-    let mut layer = Entries::new(closed);
-    let mut lines = job.lines();
+pub fn compare_job(
+    alloc: Global,
+    job: &Job,
+    entries: u32,
+    random: &mut Random,
+    tally: &mut Tally,
+) -> anyhow::Result<usize> {
+    let mut layer = Entries::new(loaded(alloc, job)?);
+    let mut lines = job.lines(alloc)?;
     for _ in 0..entries {
         enter(&mut layer, &mut lines, random);
     }
-    let seen = all_numberings(job, &lines);
-    tally.compare(&lines, &seen, &sift_all(&layer));
-    seen.count
+    let flows = all_numberings(alloc, job, &lines)?;
+    tally.compare(&lines, &flows, &Sifted::of(&layer));
+    Ok(flows.len())
+}
+
+fn random_part(random: &mut Random, signs: u64) -> Part {
+    Part {
+        mask: random.below(8) as u64 & signs,
+        standing: match random.below(3) {
+            0 => Standing::LeftOut,
+            1 => Standing::Optional,
+            _ => Standing::Required,
+        },
+    }
+}
+
+fn random_sign(random: &mut Random) -> SignRecord {
+    let least = (random.below(5) / 4) as u8;
+    SignRecord {
+        least,
+        most: least + random.below(3) as u8,
+    }
 }
 
 // Up to four parts and three signs.
-fn generate(random: &mut Random) -> Job {
-    let mut job = Job {
-        n: (random.below(5) & 0xff) as u8,
-        m: (random.below(4) & 0xff) as u8,
-        masks: [0; MOST],
-        standings: [0; MOST],
-        bounds: [(0, 0); MOST],
-        lo: (random.below(3) & 0xff) as u8,
-        hi: 0,
-    };
-    job.hi = job.lo.saturating_add((random.below(4) & 0xff) as u8);
-    for place in 0..MOST {
-        job.masks[place] = u64::from(random.below(8)) & low_bits(job.m);
-        job.standings[place] = (random.below(3) & 0xff) as u8;
-        let least = (random.below(5) / 4 & 0xff) as u8;
-        job.bounds[place] = (least, least.saturating_add((random.below(3) & 0xff) as u8));
+fn generate(alloc: Global, random: &mut Random) -> Result<Job, AllocError> {
+    let n = random.below(5);
+    let m = random.below(4);
+    let lo = random.below(3) as u16;
+    let hi = lo + random.below(4) as u16;
+    let mut parts = Vec::new(alloc);
+    let mut signs = Vec::new(alloc);
+    // so many are drawn of both, however few the job keeps
+    for _ in 0..8 {
+        parts.push(random_part(random, (1 << m) - 1))?;
+        signs.push(random_sign(random))?;
     }
-    job
+    parts.truncate(n);
+    signs.truncate(m);
+    Ok(Job {
+        parts,
+        signs,
+        lo,
+        hi,
+    })
 }
 
-// As many bits as there are signs.
-fn low_bits(m: u8) -> u64 {
-    match m {
-        0 => 0,
-        1 => 1,
-        2 => 3,
-        _ => 7,
-    }
-}
-
-pub fn compare_jobs(cases: u32, entries: u32) -> Tally {
+pub fn compare_jobs(alloc: Global, cases: u32, entries: u32) -> anyhow::Result<Tally> {
     let mut random = Random::new(1);
-    let mut tally = Tally::new();
+    let mut tally = Tally::default();
     for _ in 0..cases {
-        let job = generate(&mut random);
-        compare_job(&job, entries, &mut random, &mut tally);
+        let job = generate(alloc, &mut random)?;
+        compare_job(alloc, &job, entries, &mut random, &mut tally)?;
     }
-    tally
+    Ok(tally)
 }

@@ -7,6 +7,7 @@ mod lines;
 mod named;
 mod networks;
 mod random;
+mod sifted;
 mod small_job;
 mod tally;
 
@@ -15,34 +16,27 @@ use crate::named::named;
 use crate::networks::compare_networks;
 use crate::random::Random;
 use crate::tally::Tally;
-use std::io;
+use std::alloc::Global;
 
-fn print_tally(rt: &impl Print, what: &str, tally: &Tally) -> io::Result<()> {
-    let Tally {
-        feasible,
-        infeasible,
-        fixed,
-        free,
-        wrong,
-    } = *tally;
-    println!(rt;
-        "{what}: {feasible} feasible, {infeasible} infeasible, {fixed} lines fixed, {free} free, {wrong} differ"
-    )
-}
-
-fn compare_named(rt: &impl Print) -> io::Result<()> {
+fn compare_named(rt: &impl Print, alloc: Global) -> anyhow::Result<()> {
     let mut random = Random::new(0);
-    let mut tally = Tally::new();
-    for (name, job) in named() {
-        let count = compare_job(&job, 0, &mut random, &mut tally);
-        println!(rt; "{name}: {count} lawful")?;
+    let mut tally = Tally::default();
+    for (name, job) in named(alloc)? {
+        let lawful = compare_job(alloc, &job, 0, &mut random, &mut tally)?;
+        println!(rt; "{name}: {lawful} lawful")?;
     }
-    print_tally(rt, "jobs by name", &tally)
+    println!(rt; "jobs by name: {tally}")?;
+    Ok(())
 }
 
-fn main(rt: HostRuntime) -> io::Result<()> {
-    compare_named(&rt)?;
-    print_tally(&rt, "generated jobs", &compare_jobs(2000, 0))?;
-    print_tally(&rt, "generated jobs under entries", &compare_jobs(2000, 3))?;
-    print_tally(&rt, "listed networks", &compare_networks(3000))
+fn main(rt: HostRuntime) -> anyhow::Result<()> {
+    let alloc = rt.alloc();
+    compare_named(&rt, alloc)?;
+    println!(rt; "generated jobs: {}", compare_jobs(alloc, 2000, 0)?)?;
+    println!(rt;
+        "generated jobs under entries: {}",
+        compare_jobs(alloc, 2000, 3)?
+    )?;
+    println!(rt; "listed networks: {}", compare_networks(alloc, 3000)?)?;
+    Ok(())
 }

@@ -1,75 +1,106 @@
 // The jobs that are known by name.
-use crate::small_job::{Job, MOST};
+ghost use Rattle.std.specs.Prelude.{◌≤◌, length};
 
-const BLANK: Job = Job {
-    n: 0,
-    m: 0,
-    masks: [0; MOST],
-    standings: [0; MOST],
-    bounds: [(0, 0); MOST],
-    lo: 0,
-    hi: 64,
-};
+use crate::small_job::Job;
+use series::records::Standing::{Optional, Required};
+use series::records::{Part, SignRecord, Standing};
+use std::alloc::{AllocError, Global};
 
-// The first parts and signs as given; none of the others counts.
-fn job(parts: &[(u64, u8)], bounds: &[(u8, u8)], lo: u8, hi: u8) -> Job {
-    let mut job = BLANK;
-    job.n = (parts.len() & 0xff) as u8;
-    job.m = (bounds.len() & 0xff) as u8;
-    job.lo = lo;
-    job.hi = hi;
-    for (place, (mask, standing)) in parts.iter().enumerate().take(MOST) {
-        if place < MOST {
-            job.masks[place] = *mask;
-            job.standings[place] = *standing;
-        }
-    }
-    for (place, bound) in bounds.iter().enumerate().take(MOST) {
-        if place < MOST {
-            job.bounds[place] = *bound;
-        }
-    }
-    job
+// A literal of either record would take four lines of a table.
+fn part(mask: u64, standing: Standing) -> Part {
+    Part { mask, standing }
 }
 
-pub fn named() -> [(&'static str, Job); 9] {
-    [
+fn sign(least: u8, most: u8) -> SignRecord {
+    SignRecord { least, most }
+}
+
+fn job(
+    alloc: Global,
+    parts: &[Part],
+    signs: &[SignRecord],
+    lo: u16,
+    hi: u16,
+) -> Result<Job, AllocError>
+    requires parts { length parts.now ≤ 8 }
+    requires signs { length signs.now ≤ 8 }
+{
+    Ok(Job {
+        parts: parts.to_vec(alloc)?,
+        signs: signs.to_vec(alloc)?,
+        lo,
+        hi,
+    })
+}
+
+pub fn named(alloc: Global) -> Result<[(&'static str, Job); 9], AllocError> {
+    Ok([
         (
             "no part, a sign that stays unused",
-            job(&[], &[(0, 0)], 0, 64),
+            job(alloc, &[], &[sign(0, 0)], 0, 64)?,
         ),
         (
             "no part, a sign that is to be used",
-            job(&[], &[(1, 1)], 0, 64),
+            job(alloc, &[], &[sign(1, 1)], 0, 64)?,
         ),
-        ("a required part", job(&[(1, 2)], &[(0, 1)], 0, 64)),
-        ("an optional part", job(&[(1, 1)], &[(0, 1)], 0, 64)),
+        (
+            "a required part",
+            job(alloc, &[part(1, Required)], &[sign(0, 1)], 0, 64)?,
+        ),
+        (
+            "an optional part",
+            job(alloc, &[part(1, Optional)], &[sign(0, 1)], 0, 64)?,
+        ),
         (
             "an optional part, two to be signed",
-            job(&[(1, 1)], &[(0, 1)], 2, 2),
+            job(alloc, &[part(1, Optional)], &[sign(0, 1)], 2, 2)?,
         ),
         (
             "two required parts and an optional one",
-            job(&[(3, 2), (3, 2), (7, 1)], &[(0, 1), (0, 1), (0, 1)], 0, 64),
+            job(
+                alloc,
+                &[part(3, Required), part(3, Required), part(7, Optional)],
+                &[sign(0, 1); 3],
+                0,
+                64,
+            )?,
         ),
-        ("gearbox", job(&[(3, 2), (3, 2)], &[(0, 1), (0, 1)], 0, 64)),
+        (
+            "gearbox",
+            job(alloc, &[part(3, Required); 2], &[sign(0, 1); 2], 0, 64)?,
+        ),
         (
             "four parts, two of them optional",
             job(
-                &[(3, 2), (7, 2), (6, 1), (14, 1)],
-                &[(0, 1), (0, 1), (0, 1), (0, 1)],
+                alloc,
+                &[
+                    part(3, Required),
+                    part(7, Required),
+                    part(6, Optional),
+                    part(14, Optional),
+                ],
+                &[sign(0, 1); 4],
                 0,
                 64,
-            ),
+            )?,
         ),
         (
             "a day's timetable",
             job(
-                &[(3, 2), (3, 2), (3, 2), (3, 2), (7, 2), (30, 2), (31, 2)],
-                &[(1, 2), (1, 2), (1, 1), (0, 2), (0, 2)],
+                alloc,
+                &[
+                    part(3, Required),
+                    part(3, Required),
+                    part(3, Required),
+                    part(3, Required),
+                    part(7, Required),
+                    part(30, Required),
+                    part(31, Required),
+                ],
+                &[sign(1, 2), sign(1, 2), sign(1, 1), sign(0, 2), sign(0, 2)],
                 0,
                 64,
-            ),
+            )?,
         ),
-    ]
+    ])
 }

@@ -1,129 +1,74 @@
 // Small listed networks, and all ways to give each of their lines an amount.
-use crate::lines::{LINES, Lines, NODES, Seen};
+ghost use Rattle.std.specs.Prelude.{◌<◌};
+
+use crate::lines::{bounds_kept, node_kept};
 use crate::random::Random;
-use crate::tally::{Sifted, Tally};
-use index::step::Step;
+use crate::sifted::Sifted;
+use crate::tally::Tally;
+use anyhow::anyhow;
+use itertools::Itertools;
 use listed::lent::Listed;
-use network::Network;
 use network::line_record::LineRecord;
-use sift::sift::sift;
+use std::alloc::{AllocError, Global};
 
-// Amounts go to 3, and a network has at most so many lines.
-const MOST_LINES: usize = 6;
+// All lawful flows over lines that carry at most 3.
+fn all_flows(
+    alloc: Global,
+    lines: &[LineRecord],
+    nodes: u16,
+) -> Result<Vec<Vec<usize>>, AllocError> {
+    let choices = lines.iter().map(|_| 0..4usize);
+    let mut flows = Vec::new(alloc);
+    for amounts in choices.multi_cartesian_product(alloc)? {
+        let amounts = amounts?;
+        let mut all_nodes = 0..nodes;
+        if bounds_kept(lines, &amounts) && all_nodes.all(|node| node_kept(lines, &amounts, node)) {
+            flows.push(amounts)?;
+        }
+    }
+    Ok(flows)
+}
 
-pub fn sift_all<N: Network>(network: &N) -> Sifted {
-    let step = Step {
-        line: 0,
-        direction: 0,
+fn random_line(random: &mut Random, nodes: u16) -> LineRecord {
+    let tail = random.below(usize::from(nodes)) as u16;
+    let head = random.below(usize::from(nodes)) as u16;
+    let most = random.below(4);
+    let least = if random.below(3) == 0 {
+        random.below(most + 1)
+    } else {
+        0
     };
-    let mut flow = [9; LINES];
-    let mut verdicts = [9; LINES];
-    let mut bottleneck = [9; NODES];
-    let answer = sift(
-        network,
-        &mut flow,
-        &mut verdicts,
-        &mut bottleneck,
-        &mut [0; NODES],
-        &mut [0; NODES],
-        &mut [step; NODES],
-    );
-    Sifted {
-        answer,
-        flow,
-        verdicts,
-        bottleneck,
-    }
+    LineRecord::new(tail, head, least as u16, most as u16)
 }
 
-// The amounts that a number stands for, one digit of base 4 for each line.
-fn amounts_of(code: u32, count: usize) -> [u32; LINES] {
-    let mut amounts = [0; LINES];
-    let mut rest = code;
-    for place in 0..LINES {
-        if place < count {
-            amounts[place] = rest % 4;
-            rest /= 4;
-        }
-    }
-    amounts
-}
-
-fn nodes_kept(lines: &Lines, nodes: usize, amounts: &[u32; LINES]) -> bool {
-    let mut kept = true;
-    for node in 0..nodes {
-        if !lines.node_kept(node, amounts) {
-            kept = false;
-        }
-    }
-    kept
-}
-
-fn all_flows(lines: &Lines, nodes: usize) -> Seen {
-    let mut seen = Seen::new();
-    for code in 0..4096 {
-        let amounts = amounts_of(code, lines.count);
-        let first = amounts_of(code, MOST_LINES) == amounts;
-        if first && lines.bounds_kept(&amounts) && nodes_kept(lines, nodes, &amounts) {
-            seen.add(&amounts);
-        }
-    }
-    seen
-}
-
-// Up to six lines among up to four nodes; lines from a node to itself, side by side and both ways among them.
-fn generate(random: &mut Random, nodes: u32) -> Lines {
-    let mut lines = Lines::new();
+// Up to six lines among the nodes; lines from a node to itself, side by side and both ways among them.
+fn generate(alloc: Global, random: &mut Random, nodes: u16) -> Result<Vec<LineRecord>, AllocError> {
     let count = random.below(7);
+    let mut lines = Vec::new(alloc);
     for _ in 0..count {
-        let tail = random.below(nodes) as usize;
-        let head = random.below(nodes) as usize;
-        let most = random.below(4);
-        let least = if random.below(3) == 0 {
-            random.below(most.saturating_add(1))
-        } else {
-            0
-        };
-        lines.push(tail, head, least, most);
+        lines.push(random_line(random, nodes))?;
     }
-    lines
+    Ok(lines)
 }
 
-fn record_of(lines: &Lines, place: usize) -> LineRecord {
-    let line = lines.get(place);
-    LineRecord {
-        tail: (line.tail & 0xff) as u16,
-        head: (line.head & 0xff) as u16,
-        least: (line.least & 0xff) as u16,
-        most: (line.most & 0xff) as u16,
-    }
-}
-
-fn records_of(lines: &Lines) -> [LineRecord; MOST_LINES] {
-    let mut records = [record_of(lines, 0); MOST_LINES];
-    for place in 0..MOST_LINES {
-        records[place] = record_of(lines, place);
-    }
-    records
-}
-
-fn compare_one(random: &mut Random, tally: &mut Tally) {
-    let nodes = random.below(4).saturating_add(1);
-    let lines = generate(random, nodes);
-    let records = records_of(&lines);
+// A network of up to four nodes.
+fn compare_one(alloc: Global, random: &mut Random, tally: &mut Tally) -> anyhow::Result<()> {
+    let nodes = random.below(4) as u16 + 1;
+    let lines = generate(alloc, random, nodes)?;
     let mut network = Listed::new();
-    if network.load(nodes as usize, lines.count, &records).is_err() {
-        tally.wrong = tally.wrong.saturating_add(1);
-    }
-    let sifted = sift_all(&network);
-    tally.compare(&lines, &all_flows(&lines, nodes as usize), &sifted);
+    network
+        .load(usize::from(nodes), lines.len(), &lines)
+        .map_err(|refusal| anyhow!("a network is refused with {}", refusal.number()))?;
+    let flows = all_flows(alloc, &lines, nodes)?;
+    tally.compare(&lines, &flows, &Sifted::of(&network));
+    Ok(())
 }
 
-pub fn compare_networks(cases: u32) -> Tally {
+pub fn compare_networks(alloc: Global, cases: u32) -> anyhow::Result<Tally> {
     let mut random = Random::new(2);
-    let mut tally = Tally::new();
+    let mut tally = Tally::default();
     for _ in 0..cases {
-        compare_one(&mut random, &mut tally);
+        compare_one(alloc, &mut random, &mut tally)?;
     }
-    tally
+    Ok(tally)
 }

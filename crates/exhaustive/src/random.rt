@@ -1,5 +1,7 @@
 // A fixed pseudo-random sequence.
-#[derive(Clone, Copy)]
+ghost use Rattle.std.specs.Prelude.{◌<◌, max};
+
+#[derive(Drop)]
 pub struct Random {
     state: u64,
 }
@@ -9,15 +11,16 @@ impl Random {
         Random { state: seed }
     }
 
-    // The next number below a bound that is not 0.
-    pub fn below(&mut self, bound: u32) -> u32 {
+    // The next number below a bound; below 0 there is 0 alone.
+    pub fn below(&mut self, bound: usize) -> usize
+        ensures { result < max 1 bound }
+    {
         self.state = self
             .state
             .wrapping_mul(6364136223846793005)
             .wrapping_add(1442695040888963407);
-        if bound == 0 {
-            return 0;
-        }
-        ((self.state >> 33) % u64::from(bound)) as u32
+        ((self.state >> 33) as usize)
+            .checked_rem(bound)
+            .unwrap_or(0)
     }
 }

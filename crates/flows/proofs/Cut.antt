@@ -1,14 +1,13 @@
 -- What a set of nodes takes in and gives out, summed over its nodes and over the lines at its border.
-use Rattle.std.proofs.Common.{◌≡◌, ℕ, ◌+◌, ◌*◌, ◌<◌, ◌≤◌, Bool, true, false, cond, not, ◌&&◌, eqb, sym, refl, ap, ◌∙◌, arith}
-use Rattle.std.proofs.lemmas.Bool.{eq-eqb, ne_eqb}
+use Rattle.std.proofs.Common.{◌≡◌, ℕ, ◌+◌, ◌<◌, ◌≤◌, Bool, true, cond, not, ◌&&◌, eqb, sym, refl, ap, ◌∙◌, arith}
+use Rattle.std.proofs.lemmas.Bool.{cond_both, eq-eqb, ne_eqb}
 use Rattle.network.specs.Sum.{upto}
 use Rattle.network.specs.Net.{Net, Line, Limits, size, line, tail, head}
 use Rattle.network.specs.Flow.{over, into, from, entering, leaving}
-use Rattle.flows.proofs.Sums.{upto_le, upto_bound, upto_but, upto_same, upto_add, upto_only, upto_swap, upto_cond}
+use Rattle.flows.proofs.Sums.{upto_le, upto_but, upto_same, upto_add, upto_only, upto_swap, upto_cond}
 
 cond_le : (b : Bool) (x y : ℕ) → (b ≡ true → x ≤ y) → cond b x 0 ≤ cond b y 0
-cond_le true x y h = h refl
-cond_le false x y h = omega arith
+cond_le b x y h = grind arith
 
 -- summed over the nodes of a set
 abbrev pub sum_in : Net → (ℕ → Bool) → (ℕ → ℕ) → ℕ
@@ -18,12 +17,10 @@ sum_in g R h = upto g.nodes (λ v. cond (R v) (h v) 0)
 at_node : (n : ℕ) (R : ℕ → Bool) (k x : ℕ) → k < n → upto n (λ v. cond (R v) (cond (eqb k v) x 0) 0) ≡ cond (R k) x 0
 at_node n R k x l =
     upto_only n k (λ v. cond (R v) (cond (eqb k v) x 0) 0) l
-    (λ i _ e. ap (λ b. cond (R i) (cond b x 0) 0) (ne_eqb k i (λ q. e (sym q))) ∙ both (R i))
+    (λ i _ e.
+    ap (λ b. cond (R i) (cond b x 0) 0) (ne_eqb k i (λ q. e (sym q)))
+    ∙ cond_both {A = ℕ} (R i) 0 0 (λ y. y ≡ 0) (λ _. refl) (λ _. refl))
     ∙ ap (λ b. cond (R k) (cond b x 0) 0) (eq-eqb k k refl)
-  where
-    both : (b : Bool) → cond {A = ℕ} b 0 0 ≡ 0
-    both true = refl
-    both false = refl
 
 -- what the nodes of a set have at one end of the lines is what the lines with that end in the set carry
 ends : (g : Net) (end : Line → ℕ) → ((i : ℕ) → i < size g → end (line g i) < g.nodes) → (f : ℕ → ℕ) (R : ℕ → Bool)
@@ -54,15 +51,10 @@ border g lim f R =
     )
   where
     head_side : (h t : Bool) (x : ℕ) → cond h x 0 ≡ cond (h && not t) x 0 + cond (h && t) x 0
-    head_side true true x = omega arith
-    head_side true false x = omega arith
-    head_side false t x = omega arith
+    head_side h t x = grind arith
 
     tail_side : (h t : Bool) (x : ℕ) → cond t x 0 ≡ cond (t && not h) x 0 + cond (h && t) x 0
-    tail_side true true x = omega arith
-    tail_side false true x = omega arith
-    tail_side true false x = omega arith
-    tail_side false false x = omega arith
+    tail_side h t x = grind arith
 
 -- amounts in order on the lines that pass a test are in order summed
 pub over_le : (g : Net) (p : Line → Bool) (f h : ℕ → ℕ) → ((i : ℕ) → i < size g → p (line g i) ≡ true → f i ≤ h i)
@@ -80,11 +72,3 @@ over_but g p f h l m e k =
       ap (λ b. cond b (f l) 0) e,
       ap (λ b. cond b (h l) 0) e,
     )
-
--- amounts that are each at most x, summed over the lines that pass a test
-pub over_bound : (g : Net) (p : Line → Bool) (f : ℕ → ℕ) (x : ℕ) → ((i : ℕ) → i < size g → f i ≤ x) → over g p f ≤ size g * x
-over_bound g p f x h = upto_bound (size g) _ x (λ i l. at_most (p (line g i)) (f i) (h i l))
-  where
-    at_most : (b : Bool) (y : ℕ) → y ≤ x → cond b y 0 ≤ x
-    at_most true y k = k
-    at_most false y k = omega arith

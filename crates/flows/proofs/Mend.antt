@@ -1,5 +1,6 @@
 -- Mending a flow: a search that is stuck leaves a bottleneck, and a flow with nothing to spare is lawful.
-use Rattle.std.proofs.Common.{◌≡◌, ℕ, ◌+◌, ◌-◌, ◌<◌, Bool, true, false, cond, List, refl, ap, ◌∙◌, arith}
+use Rattle.std.proofs.Common.{◌≡◌, ℕ, ◌+◌, ◌<◌, Bool, true, cond, List, refl, ap, ◌∙◌, arith}
+use Rattle.std.proofs.lemmas.Bool.{cond_both}
 use Rattle.network.specs.Sum.{upto}
 use Rattle.network.specs.Net.{Net, Limits, size, line, least, most}
 use Rattle.network.specs.Flow.{at, over, into, from, entering, leaving, Bottleneck, Lawful}
@@ -12,8 +13,7 @@ sum_in_add g R a b =
     upto_same g.nodes _ _ (λ v _. apart (R v) (a v) (b v)) ∙ upto_add g.nodes (λ v. cond (R v) (a v) 0) (λ v. cond (R v) (b v) 0)
   where
     apart : (t : Bool) (x y : ℕ) → cond t (x + y) 0 ≡ cond t x 0 + cond t y 0
-    apart true x y = refl
-    apart false x y = refl
+    apart t x y = grind arith
 
 -- what enters a set and what its nodes lack is what leaves it and what its nodes have to spare
 pub spare_of_set : (g : Net) → Limits g → (f spare lack : ℕ → ℕ) → Balanced g f spare lack → (R : ℕ → Bool)
@@ -41,21 +41,12 @@ stuck g lim f spare lack bal R shut full v l e some =
     omega (
       arith,
       spare_of_set g lim f spare lack bal R,
-      upto_zero g.nodes (λ w. cond (R w) (lack w) 0) (λ w m. none (R w) (lack w) (full w m)),
+      upto_zero g.nodes (λ w. cond (R w) (lack w) 0) (λ w m. cond_both (R w) (lack w) 0 (λ x. x ≡ 0) (full w m) (λ _. refl)),
       upto_part g.nodes v (λ w. cond (R w) (spare w) 0) l,
       ap (λ b. cond b (spare v) 0) e,
       over_le g (entering R) f (λ i. least (line g i)) (λ i m. (shut i m).back),
       over_le g (leaving R) (λ i. most (line g i)) f (λ i m. (shut i m).out),
     )
-  where
-    none : (b : Bool) (x : ℕ) → (b ≡ true → x ≡ 0) → cond b x 0 ≡ 0
-    none true x h = h refl
-    none false x h = refl
-
--- whatever the amounts, each node has to spare what enters beyond what leaves, and lacks what leaves beyond what enters
-pub balanced_start : (g : Net) (f : ℕ → ℕ)
-    → Balanced g f (λ v. over g (into v) f - over g (from v) f) (λ v. over g (from v) f - over g (into v) f)
-balanced_start g f v l = omega arith
 
 -- where nothing is to spare nothing is lacking, and the flow is lawful
 pub mended : (g : Net) → Limits g → (f : List ℕ) (spare lack : ℕ → ℕ) → Mending g f spare lack

@@ -1,11 +1,11 @@
 -- Going round: a flow shifted along a trail that closes over a line is lawful again, and carries another amount over the line.
-use Rattle.std.proofs.Common.{◌≡◌, ℕ, ◌+◌, ◌-◌, ◌<◌, ◌≤◌, Bool, true, false, cond, ◌⊎◌, List, [], ◌∷◌, sym, refl, ap, ◌∙◌, subst, inl, inr, arith}
+use Rattle.std.proofs.Common.{◌≡◌, ℕ, ◌<◌, Bool, true, ◌⊎◌, List, [], ◌∷◌, sym, refl, ap, ◌∙◌, subst, inl, inr, arith}
 use Rattle.std.proofs.ByRecursion.{All-weaker}
 use Rattle.std.proofs.lemmas.Bool.{true≢false, false≢true}
 use Rattle.network.specs.Net.{Net, size, line, tail, head, least, most}
 use Rattle.network.specs.Flow.{at, Kept, Lawful, Free}
 use Rattle.flows.specs.Bounds.{Within}
-use Rattle.flows.specs.Steps.{Step, place, along, origin, target, HasRoom, changed, shifted, pushed}
+use Rattle.flows.specs.Steps.{Step, place, origin, target, HasRoom, changed, shifted, pushed}
 use Rattle.flows.specs.Trails.{Avoids, Trail, Reached, Spread}
 use Rattle.flows.proofs.Trails.{trail_more}
 use Rattle.flows.proofs.Push.{push_within, push_carried, pushed_length, at_pushed, moved_here, shifted_avoids}
@@ -31,7 +31,7 @@ round_lawful g d a f steps law t =
 pub round : (g : Net) (f : List ℕ) → Lawful g f → (s : Step) → place s < size g → HasRoom g (at f) 1 s → (steps : List Step)
     → Trail g 1 (at f) (target g s) (origin g s) steps → Avoids (place s) steps → Free g (place s) (at f (place s))
 round g f law s l room steps t new =
-    (pushed (s ∷ steps) 1 f, (round_lawful g 1 (target g s) f (s ∷ steps) law whole, λ e. other (along s) (at f (place s)) room.less (sym amount ∙ e)))
+    (pushed (s ∷ steps) 1 f, (round_lawful g 1 (target g s) f (s ∷ steps) law whole, λ e. other (sym amount ∙ e)))
   where
     whole : Trail g 1 (at f) (target g s) (target g s) (s ∷ steps)
     whole = trail_more t s l refl room new
@@ -42,9 +42,8 @@ round g f law s l room steps t new =
         ∙ moved_here s 1 (shifted steps 1 (at f))
         ∙ ap (changed s 1) (shifted_avoids (place s) steps 1 (at f) new)
 
-    other : (b : Bool) (x : ℕ) → (b ≡ false → least (line g (place s)) + 1 ≤ x) → cond b (x + 1) (x - 1) ≡ x → ⊥
-    other true x h e = omega arith
-    other false x h e = omega (arith, h refl)
+    other : changed s 1 (at f (place s)) ≡ at f (place s) → ⊥
+    other e = let less = room.less in grind arith
 
 -- the same by a set of nodes that is reached from the step's end and holds its start
 pub round_spread : (g : Net) (f : List ℕ) → Lawful g f → (s : Step) → place s < size g → HasRoom g (at f) 1 s → (R : ℕ → Bool)

@@ -71,8 +71,7 @@ upto_cond n true f = refl
 upto_cond n false f = upto_zero n (λ _. 0) (λ _ _. refl)
 
 one_le : (b : Bool) → cond {A = ℕ} b 1 0 ≤ 1
-one_le true = omega arith
-one_le false = omega arith
+one_le b = grind arith
 
 upto_ones : (n : ℕ) → upto n (λ _. 1) ≡ n
 upto_ones zero = refl
@@ -101,15 +100,6 @@ count_more n k test more l e m h =
       ap (λ b. cond {A = ℕ} b 1 0) e,
       ap (λ b. cond {A = ℕ} b 1 0) m,
     )
-
--- a wider test counts at least as much
-pub count_wider : (n : ℕ) (test more : ℕ → Bool) → ((i : ℕ) → i < n → test i ≡ true → more i ≡ true)
-    → count_upto n test ≤ count_upto n more
-count_wider n test more h = upto_le n (λ i. cond (test i) 1 0) (λ i. cond (more i) 1 0) (λ i l. wider (test i) (more i) (h i l))
-  where
-    wider : (a b : Bool) → (a ≡ true → b ≡ true) → cond {A = ℕ} a 1 0 ≤ cond {A = ℕ} b 1 0
-    wider true b k = omega (arith, ap (λ c. cond {A = ℕ} c 1 0) (k refl))
-    wider false b k = omega arith
 
 -- a sum of nothing has nothing at any place
 pub upto_none : (n k : ℕ) (f : ℕ → ℕ) → upto n f ≡ 0 → k < n → f k ≡ 0

@@ -2,7 +2,7 @@
 use Rattle.std.proofs.Common.{◌≡◌, ℕ, zero, suc, ◌+◌, ◌<◌, ◌≤◌, Bool, true, false, cond, not, leb, List, [], ◌∷◌, sym, refl, ap, ◌∙◌, subst, inl, inr, add-one, arith}
 use Rattle.std.specs.List.{AllByRecursion}
 use Rattle.std.proofs.ByRecursion.{All-weaker}
-use Rattle.std.proofs.lemmas.Bool.{both_ways, cases_eq, cases_lt, and_parts, not-true, leb-true, le-leb}
+use Rattle.std.proofs.lemmas.Bool.{both_ways, cases_eq, cases_lt, cond_both, and_parts, not-true, leb-true, le-leb}
 use Rattle.network.specs.Net.{Net, Line, size, line, tail, head, least, most}
 use Rattle.flows.specs.Bounds.{Shut}
 use Rattle.flows.specs.Steps.{Step, place, along, origin, target, HasRoom, walked}
@@ -50,11 +50,8 @@ held_from_step g R s o t =
     pick false x y p q = q
 
 pub target_held : (g : Net) (R : ℕ → Bool) (s : Step) → Held R (line g (place s)) → R (target g s) ≡ true
-target_held g R s h = pick (along s) (head (line g (place s))) (tail (line g (place s))) h.head h.tail
-  where
-    pick : (b : Bool) (x y : ℕ) → R x ≡ true → R y ≡ true → R (cond b x y) ≡ true
-    pick true x y p q = p
-    pick false x y p q = q
+target_held g R s h =
+    cond_both (along s) (head (line g (place s))) (tail (line g (place s))) (λ v. R v ≡ true) (λ _. h.head) (λ _. h.tail)
 
 -- a way downhill stays at or above the level of its end
 downhill_stays : (g : Net) (level : ℕ → ℕ) (a b : ℕ) (steps : List Step) → Joined g a b steps → Downhill g level steps
@@ -93,7 +90,7 @@ pub spread_start : (g : Net) (d : ℕ) (f : ℕ → ℕ) (l a : ℕ) (R : ℕ �
 spread_start g d f l a R alone v e =
     record {
       steps = [];
-      trail = record { joined = sym (alone v e); inside = tt; room = tt; once = tt };
+      trail = subst (λ b. Trail g d f a b []) (sym (alone v e)) (trail_none g d f a);
       avoids = tt;
       stays = tt;
     }

@@ -6,57 +6,41 @@ ghost use Rattle.flows.specs.Theorems.{ClosedSetFixesFromAbove, ClosedSetFixesFr
 ghost use Rattle.flows.specs.Theorems.{PushKeepsBoundsAndLowersExcess, SameMeaningSameFlows};
 
 // What enters any set of nodes in a lawful flow leaves it.
-pub fn entering_equals_leaving() -> u8
+pub fn entering_equals_leaving()
     ensures { EnteringEqualsLeaving }
-{
-    0
-}
+{}
 
 // Where there is a bottleneck there is no lawful flow.
-pub fn bottleneck_excludes_flows() -> u8
+pub fn bottleneck_excludes_flows()
     ensures { BottleneckExcludesFlows }
-{
-    0
-}
+{}
 
 // A search for a way from a node with something to spare to a lacking one, when it is stuck, leaves a bottleneck.
-pub fn stuck_search_leaves_bottleneck() -> u8
+pub fn stuck_search_leaves_bottleneck()
     ensures { StuckSearchLeavesBottleneck }
-{
-    0
-}
+{}
 
 // No lawful flow carries more over a line into a closed set.
-pub fn closed_set_fixes_from_above() -> u8
+pub fn closed_set_fixes_from_above()
     ensures { ClosedSetFixesFromAbove }
-{
-    0
-}
+{}
 
 // No lawful flow carries less over a line out of a closed set.
-pub fn closed_set_fixes_from_below() -> u8
+pub fn closed_set_fixes_from_below()
     ensures { ClosedSetFixesFromBelow }
-{
-    0
-}
+{}
 
 // A line with room and a way back without it is free.
-pub fn way_round_frees() -> u8
+pub fn way_round_frees()
     ensures { WayRoundFrees }
-{
-    0
-}
+{}
 
 // A push along a trail keeps the bounds, and what is to spare in all falls by what is pushed.
-pub fn push_keeps_bounds_and_lowers_excess() -> u8
+pub fn push_keeps_bounds_and_lowers_excess()
     ensures { PushKeepsBoundsAndLowersExcess }
-{
-    0
-}
+{}
 
 // Networks of the same meaning have the same lawful flows, demands, supplies, fixed lines and free lines.
-pub fn same_meaning_same_flows() -> u8
+pub fn same_meaning_same_flows()
     ensures { SameMeaningSameFlows }
-{
-    0
-}
+{}

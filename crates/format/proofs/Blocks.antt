@@ -5,7 +5,8 @@ use Rattle.std.proofs.lemmas.List.FromFn.{get_or-map-range_with_len}
 use Rattle.std.proofs.lemmas.Bool.{lt-ltb, le-ltb, ne_eqb, cond-true, cond-false, cond_both, ltb-true, eqb-false}
 use Rattle.blocks.specs.Bytes.{byte_at}
 use Rattle.blocks.specs.Block.{Block, check_of, record_of}
-use Rattle.format.proofs.Same.{part_at_byte, check_same, check_small}
+use Rattle.blocks.proofs.Parts.{part_at_byte}
+use Rattle.format.proofs.Same.{check_same, check_small}
 use Rattle.format.proofs.Written.{Given}
 
 -- The byte j of the first 510, where rec r k is the byte k of record r.

@@ -1,9 +1,8 @@
 -- A file of the format passes the checks of the form, and holds what its bytes give.
-use Rattle.std.proofs.Common.{◌≡◌, ℕ, ◌+◌, ◌-◌, ◌*◌, ◌/◌, ◌%◌, ◌<◌, ◌≤◌, Bool, true, false, List, [], map, length, get_or, MatchBool, sym, ap, ◌∙◌, subst, ⊎_elim, arith}
+use Rattle.std.proofs.Common.{◌≡◌, ℕ, ◌+◌, ◌-◌, ◌*◌, ◌/◌, ◌%◌, ◌<◌, ◌≤◌, List, [], map, length, get_or, sym, ap, ◌∙◌, subst, ⊎_elim, arith}
 use Rattle.std.specs.List.{range_with_len}
-use Rattle.std.proofs.lemmas.List.FromFn.{length-map-range_with_len, get_or-map-range_with_len}
-use Rattle.std.proofs.lemmas.List.{ext_get_or}
-use Rattle.std.proofs.lemmas.Bool.{lt-ltb, le-ltb, ne_eqb, cases_lt}
+use Rattle.std.proofs.lemmas.List.FromFn.{fill_by_all}
+use Rattle.std.proofs.lemmas.Bool.{cases_lt}
 use Rattle.series.specs.Load.{no_record}
 use Rattle.series.specs.Sound.{no_sign}
 use Rattle.series.specs.declared.records.PartRecord.{PartRecord}
@@ -14,28 +13,14 @@ use Rattle.contents.specs.declared.act.Act.{Act}
 use Rattle.contents.specs.declared.act.Act.TheVariants.{Query}
 use Rattle.records.specs.Records.{part_from, sign_from, act_from, GoodHead, GoodPart, GoodSign}
 use Rattle.records.specs.Text.{SameText}
-use Rattle.layout.specs.Places.{block_count, blocks_for, parts_start, signs_start, acts_start, record_at, parts_in, signs_in, least_total, most_total, name_at, text_at}
-use Rattle.layout.specs.Form.{expects, GoodBlock, sign_held, NewText}
+use Rattle.layout.specs.Places.{block_count, blocks_for, filled, parts_start, signs_start, record_at, parts_in, signs_in, least_total, most_total, name_at, text_at}
+use Rattle.layout.specs.Form.{GoodBlock, sign_held, NewText}
+use Rattle.layout.specs.declared.kind.Kind.TheVariants.{Parts, Signs, Acts}
+use Rattle.layout.proofs.BlockKinds.{good_from}
 use Rattle.jobfile.specs.Contents.{Contents, contents_of, parts_of, signs_of, names_of, texts_of, labels_of, acts_from, acts_in, act_blocks}
 use Rattle.jobfile.specs.Format.{FileFor, FileOf}
 use Rattle.jobfile.specs.Formed.{Formed}
-use Rattle.jobfile.proofs.Files.{expects_part, expects_sign, expects_act}
 use Rattle.format.proofs.Held.{label_is, part_is, sign_is, act_is, good_head, good_part, good_sign, good_act}
-
--- a list of n things is the list made by place
-by_place : {X : Type 0} (xs : List X) (f : ℕ → X) (n : ℕ) (d : X) → length xs ≡ n → ((k : ℕ) → k < n → get_or xs k d ≡ f k) → xs ≡ map f (range_with_len 0 n)
-by_place xs f n d long each =
-    ext_get_or d xs (map f (range_with_len 0 n)) (long ∙ sym (length-map-range_with_len f 0 n)) (λ k h. let inside : k < n = omega (arith, long) in each k inside ∙ sym (get_or-map-range_with_len f 0 n k k d inside (omega arith)))
-
--- a choice by a test that is known
-when_so : (P Q : Type 0) {t : Bool} → t ≡ true → P → MatchBool t P Q
-when_so P Q e h = subst (λ (x : Bool). MatchBool x P Q) (sym e) h
-
-when_not : (P Q : Type 0) {t : Bool} → t ≡ false → Q → MatchBool t P Q
-when_not P Q e h = subst (λ (x : Bool). MatchBool x P Q) (sym e) h
-
-block_from : (file : List ℕ) (n m b : ℕ) (e : ℕ × ℕ × ℕ) → expects n m b ≡ e → Block e.0 b e.1 e.2 (block_of file b) → Block (expects n m b).0 b (expects n m b).1 (expects n m b).2 (block_of file b)
-block_from file n m b e p block = subst (λ (x : ℕ × ℕ × ℕ). Block x.0 b x.1 x.2 (block_of file b)) (sym p) block
 
 -- the numbers of parts and signs are those that the head's record gives
 pub at_head : (file : List ℕ) (c : Contents) → FileOf file c → FileFor file c (parts_in file) (signs_in file)
@@ -50,28 +35,28 @@ module _ (file : List ℕ) (c : Contents) (f : FileFor file c (parts_in file) (s
   act_blocks_hold = omega (arith, blocks_are)
 
   parts_are : c.parts ≡ parts_of file
-  parts_are = by_place c.parts (λ p. part_from (record_at file parts_start p)) (parts_in file) no_record f.parts (λ p h. part_is _ _ _ (f.parts_held p h))
+  parts_are = fill_by_all (λ p. part_from (record_at file parts_start p)) c.parts (parts_in file) no_record f.parts (λ p h. part_is _ _ _ (f.parts_held p h))
 
   names_are : c.labels.names ≡ names_of file (parts_in file)
-  names_are = by_place c.labels.names (name_at file) (parts_in file) [] f.names (λ p h. label_is 20 _ _ (omega (arith, (f.parts_held p h).long)) (f.parts_held p h).label)
+  names_are = fill_by_all (name_at file) c.labels.names (parts_in file) [] f.names (λ p h. label_is 20 _ _ (omega (arith, (f.parts_held p h).long)) (f.parts_held p h).label)
 
   signs_are : c.signs ≡ signs_of file
-  signs_are = by_place c.signs (λ s. sign_from (record_at file (signs_start (parts_in file)) s)) (signs_in file) no_sign f.signs (λ s h. sign_is _ _ _ (f.signs_held s h))
+  signs_are = fill_by_all (λ s. sign_from (record_at file (signs_start (parts_in file)) s)) c.signs (signs_in file) no_sign f.signs (λ s h. sign_is _ _ _ (f.signs_held s h))
 
   text_is : (s : ℕ) → s < signs_in file → get_or c.labels.texts s [] ≡ text_at file (parts_in file) s
   text_is s h = label_is 8 _ _ (omega (arith, (f.signs_held s h).long)) (f.signs_held s h).label
 
   texts_are : c.labels.texts ≡ texts_of file (signs_in file)
-  texts_are = by_place c.labels.texts (text_at file (parts_in file)) (signs_in file) [] f.texts text_is
+  texts_are = fill_by_all (text_at file (parts_in file)) c.labels.texts (signs_in file) [] f.texts text_is
 
   act_count : (a : ℕ) → a < length c.acts → length (get_or c.acts a []) ≡ record_count (block_of file (acts_from file + a))
   act_count a h = let block = f.act_blocks a h in omega (arith, block.block.laid.some, block.block.laid.few)
 
   acts_are : c.acts ≡ map (acts_in file) (range_with_len 0 (act_blocks file))
   acts_are =
-      by_place c.acts (acts_in file) (act_blocks file) [] act_blocks_hold (λ a h.
+      fill_by_all (acts_in file) c.acts (act_blocks file) [] act_blocks_hold (λ a h.
       let inside : a < length c.acts = omega (arith, act_blocks_hold) in
-      by_place (get_or c.acts a []) (λ r. act_from (record_of (block_of file (acts_from file + a)) r)) (record_count (block_of file (acts_from file + a))) Query (act_count a inside) (λ r l. act_is _ _ ((f.act_blocks a inside).held r (omega (arith, act_count a inside)))))
+      fill_by_all (λ r. act_from (record_of (block_of file (acts_from file + a)) r)) (get_or c.acts a []) (record_count (block_of file (acts_from file + a))) Query (act_count a inside) (λ r l. act_is _ _ ((f.act_blocks a inside).held r (omega (arith, act_count a inside)))))
 
   pub contents_are : c ≡ contents_of file
   contents_are =
@@ -87,18 +72,18 @@ module _ (file : List ℕ) (c : Contents) (f : FileFor file c (parts_in file) (s
 
   part_block : (q : ℕ) → q < blocks_for (parts_in file) → GoodBlock file (parts_in file) (signs_in file) (1 + q)
   part_block q h =
+      let n = parts_in file in
       let block = f.part_blocks q h in
-      let b = 1 + q in
-      record {
-        block = block_from file (parts_in file) (signs_in file) (1 + q) _ (expects_part (parts_in file) (signs_in file) q h) block;
-        records = λ r l.
-            let small : r < 16 = omega (arith, block.laid.few) in
+      let back : q ≡ 1 + q - 1 = omega arith in
+      good_from Parts file (parts_in file) (signs_in file) (1 + q) (omega arith, omega arith) (
+        subst (λ (b : ℕ). Block 80 (1 + q) (filled n b) (filled n b) (block_of file (1 + q))) back block,
+        λ r l.
             let p : 16 * q + r < parts_in file = omega (arith, block.laid.few) in
+            let small : r < 16 = omega (arith, block.laid.few) in
             let at : (16 * q + r) / 16 ≡ q = omega arith in
             let in' : (16 * q + r) % 16 ≡ r = omega arith in
-            let good = good_part _ _ _ (f.parts_held (16 * q + r) p) in
-            when_not _ _ (ne_eqb (1 + q) 0 (λ z. omega arith)) (when_so _ _ (lt-ltb (1 + q) (signs_start (parts_in file)) (omega arith)) (subst (λ (i : ℕ). GoodPart (record_of (block_of file (1 + q)) i)) in' (subst (λ (i : ℕ). GoodPart (record_of (block_of file (1 + i)) ((16 * q + r) % 16))) at good)));
-      }
+            subst (λ (i : ℕ). GoodPart (record_of (block_of file (1 + q)) i)) in' (subst (λ (i : ℕ). GoodPart (record_of (block_of file (1 + i)) ((16 * q + r) % 16))) at (good_part _ _ _ (f.parts_held (16 * q + r) p))),
+      )
 
   new_text : (s : ℕ) → s < signs_in file → NewText file (parts_in file) s
   new_text s h t l same =
@@ -106,32 +91,32 @@ module _ (file : List ℕ) (c : Contents) (f : FileFor file c (parts_in file) (s
 
   sign_block : (q : ℕ) → q < blocks_for (signs_in file) → GoodBlock file (parts_in file) (signs_in file) (signs_start (parts_in file) + q)
   sign_block q h =
-      let block = f.sign_blocks q h in
+      let m = signs_in file in
       let start = signs_start (parts_in file) in
-      record {
-        block = block_from file (parts_in file) (signs_in file) (signs_start (parts_in file) + q) _ (expects_sign (parts_in file) (signs_in file) q h) block;
-        records = λ r l.
-            let small : r < 16 = omega (arith, block.laid.few) in
+      let block = f.sign_blocks q h in
+      let back : q ≡ signs_start (parts_in file) + q - signs_start (parts_in file) = omega arith in
+      good_from Signs file (parts_in file) (signs_in file) (start + q) (omega arith, omega arith) (
+        subst (λ (b : ℕ). Block 83 (start + q) (filled m b) (filled m b) (block_of file (start + q))) back block,
+        λ r l.
             let s : 16 * q + r < signs_in file = omega (arith, block.laid.few) in
+            let small : r < 16 = omega (arith, block.laid.few) in
             let at : (16 * q + r) / 16 ≡ q = omega arith in
             let in' : (16 * q + r) % 16 ≡ r = omega arith in
             let held : 16 * q + r ≡ sign_held (parts_in file) (signs_start (parts_in file) + q) r = omega arith in
-            let good = good_sign _ _ _ (f.signs_held (16 * q + r) s) in
-            when_not _ _ (ne_eqb (signs_start (parts_in file) + q) 0 (λ z. omega arith)) (when_not _ _ (le-ltb (signs_start (parts_in file) + q) (signs_start (parts_in file)) (omega arith)) (when_so _ _ (lt-ltb (signs_start (parts_in file) + q) (acts_start (parts_in file) (signs_in file)) (omega arith))
-            (subst (λ (i : ℕ). GoodSign (record_of (block_of file (signs_start (parts_in file) + q)) i)) in' (subst (λ (i : ℕ). GoodSign (record_of (block_of file (signs_start (parts_in file) + i)) ((16 * q + r) % 16))) at good), subst (NewText file (parts_in file)) held (new_text (16 * q + r) s))));
-      }
+            (subst (λ (i : ℕ). GoodSign (record_of (block_of file (start + q)) i)) in' (subst (λ (i : ℕ). GoodSign (record_of (block_of file (start + i)) ((16 * q + r) % 16))) at (good_sign _ _ _ (f.signs_held (16 * q + r) s))), subst (NewText file (parts_in file)) held (new_text (16 * q + r) s)),
+      )
 
   act_block : (a : ℕ) → a < length c.acts → GoodBlock file (parts_in file) (signs_in file) (acts_from file + a)
   act_block a h =
       let acts = f.act_blocks a h in
       let laid = acts.block.laid in
-      record {
-        block = block_from file (parts_in file) (signs_in file) (acts_from file + a) _ (expects_act (parts_in file) (signs_in file) a) record {
+      good_from Acts file (parts_in file) (signs_in file) (acts_from file + a) (omega arith) (
+        record {
           check = acts.block.check;
-          laid = record { long = acts.block.laid.long; kind = acts.block.laid.kind; some = omega (arith, acts.some, acts.block.laid.some); few = omega (arith, acts.few, acts.block.laid.few); place = acts.block.laid.place; rest = acts.block.laid.rest };
-        };
-        records = λ r l. when_not _ _ (ne_eqb (acts_from file + a) 0 (λ z. omega arith)) (when_not _ _ (le-ltb (acts_from file + a) (signs_start (parts_in file)) (omega arith)) (when_not _ _ (le-ltb (acts_from file + a) (acts_from file) (omega arith)) (good_act _ _ (acts.held r (omega (arith, acts.block.laid.some, acts.block.laid.few))))));
-      }
+          laid = record { long = laid.long; kind = laid.kind; some = omega (arith, acts.some, acts.block.laid.some); few = omega (arith, acts.few, acts.block.laid.few); place = laid.place; rest = laid.rest };
+        },
+        λ r l. good_act _ _ (acts.held r (omega (arith, acts.block.laid.some, acts.block.laid.few))),
+      )
 
   any_block : (b : ℕ) → 1 ≤ b → b < block_count file → GoodBlock file (parts_in file) (signs_in file) b
   any_block b from to =

@@ -8,7 +8,8 @@ use Rattle.layout.specs.Places.{blocks_for, filled, signs_start, acts_start, rec
 use Rattle.jobfile.specs.Contents.{Contents}
 use Rattle.jobfile.specs.Format.{FileFor}
 use Rattle.format.specs.Theorems.{Bytes}
-use Rattle.format.proofs.Same.{part_at_byte, bytes_part, head_same, part_same, sign_same, act_same, block_same}
+use Rattle.blocks.proofs.Parts.{part_at_byte}
+use Rattle.format.proofs.Same.{bytes_part, head_same, part_same, sign_same, act_same, block_same}
 
 -- the record r of the block q of a kind that begins with the block `start`
 record_in : (file : List ℕ) (start q r : ℕ) → r < 16 → record_at file start (16 * q + r) ≡ record_of (block_of file (start + q)) r

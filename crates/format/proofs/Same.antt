@@ -1,6 +1,6 @@
 -- Bytes that hold the same are the same: numbers, records, blocks.
-use Rattle.std.proofs.Common.{◌≡◌, ℕ, zero, suc, ◌+◌, ◌-◌, ◌*◌, ◌/◌, ◌%◌, ◌<◌, ◌≤◌, List, length, drop, sym, refl, ap, ◌∙◌, subst, ⊎_elim, arith, length-take, get_or-take}
-use Rattle.std.proofs.lemmas.List.{ext_get_or, get_or-drop, get_or_past}
+use Rattle.std.proofs.Common.{◌≡◌, ℕ, zero, suc, ◌+◌, ◌-◌, ◌*◌, ◌/◌, ◌%◌, ◌<◌, ◌≤◌, List, length, drop, sym, refl, ap, ◌∙◌, subst, ⊎_elim, arith, length-take}
+use Rattle.std.proofs.lemmas.List.{ext_get_or, get_or_past}
 use Rattle.std.proofs.lemmas.Nat.{mod_below}
 use Rattle.std.proofs.lemmas.Bool.{cases_lt}
 use Rattle.blocks.specs.Bytes.{byte_at, number_at, part_at}
@@ -9,12 +9,10 @@ use Rattle.contents.specs.declared.act.Act.{Act}
 use Rattle.series.specs.declared.records.PartRecord.{PartRecord}
 use Rattle.series.specs.declared.records.SignRecord.{SignRecord}
 use Rattle.records.specs.Records.{Label, HeadBytes, PartBytes, SignBytes, ActBytes}
+use Rattle.blocks.proofs.Parts.{part_at_byte}
 use Rattle.format.specs.Theorems.{Bytes}
 
--- A byte of a part, and a part of bytes.
-pub part_at_byte : (size from : ℕ) (xs : List ℕ) (i : ℕ) → i < size → byte_at (part_at size xs from) i ≡ byte_at xs (from + i)
-part_at_byte size from xs i h = get_or-take size (drop from xs) i 0 h ∙ get_or-drop from xs i 0
-
+-- a part of bytes
 pub bytes_part : (size from : ℕ) (xs : List ℕ) → Bytes xs → Bytes (part_at size xs from)
 bytes_part size from xs bytes i =
     ⊎_elim (λ l. subst (λ (x : ℕ). x < 256) (sym (part_at_byte size from xs i l)) (bytes (from + i))) (λ g. subst (λ (x : ℕ). x < 256) (sym (get_or_past (part_at size xs from) i 0 (omega (arith, length-take size (drop from xs))))) (omega arith)) (cases_lt i size)

@@ -1,36 +1,45 @@
 // Prints each call with its answer, one line each.
-use crate::gear_job::{PARTS, SIGNS};
 use layers::entry::{Bound, Entry};
+use sample_jobs::jobs::GEARBOX;
 use session::turn::{Answer, Buffers, Call, Turn};
 use sift::refusal::SiftRefusal;
-use std::io;
+use std::{fmt, io};
+use verdicts::verdict::Verdict;
 
-// The two parts have one line each; then each part has a line for each sign.
-fn print_entry(rt: &impl Print, entry: &Entry) -> io::Result<()> {
-    let line = entry.line;
-    let amount = entry.amount;
-    match entry.bound {
-        Bound::AtLeast => print!(rt; "line {line} carries at least {amount}"),
-        Bound::AtMost => print!(rt; "line {line} carries at most {amount}"),
+// An entry in words.
+#[derive(Drop)]
+struct Laid(Entry);
+
+impl fmt::Display for Laid {
+    fn fmt<W: fmt::Write>(&self, f: &mut fmt::Formatter<W>) -> fmt::Result {
+        let bound = match self.0.bound {
+            Bound::AtLeast => "at least",
+            Bound::AtMost => "at most",
+        };
+        write!(f, "line {} carries {bound} {}", self.0.line, self.0.amount)
     }
 }
 
-// The signs that are open to each part: those whose line is not fixed at 0.
+// A sign is open to a part where the line of the two is not fixed at 0.
+fn is_open(buffers: &Buffers, line: usize) -> bool {
+    let fixed = buffers.verdicts.get(line) == Some(&u8::from(Verdict::Fixed));
+    !fixed || buffers.flow.get(line).is_some_and(|amount| *amount > 0)
+}
+
+// The signs that are open to each part. The two parts have one line each; then each part has a line for each sign.
 fn print_open(rt: &impl Print, buffers: &Buffers) -> io::Result<()> {
-    for (p, part) in PARTS.iter().enumerate() {
-        print!(rt; "; {part} may have")?;
-        for (s, sign) in SIGNS.iter().enumerate() {
-            let line = 2 + 2 * p + s;
-            let fixed = buffers.verdicts.get(line).copied().unwrap_or(0) == 1;
-            let amount = buffers.flow.get(line).copied().unwrap_or(0);
-            if !fixed || amount > 0 {
-                print!(rt; " {sign}")?;
+    for (p, part) in GEARBOX.parts.iter().enumerate() {
+        print!(rt; "; {} may have", part.name)?;
+        for (s, sign) in GEARBOX.signs.iter().enumerate() {
+            if is_open(buffers, 2 + 2 * p + s) {
+                print!(rt; " {}", sign.name)?;
             }
         }
     }
     println!(rt; "")
 }
 
+// The nodes whose byte in the lent memory is 1, and the sums of the bottleneck.
 fn print_bottleneck(
     rt: &impl Print,
     buffers: &Buffers,
@@ -61,24 +70,18 @@ fn print_sift(rt: &impl Print, buffers: &Buffers, answer: Option<Answer>) -> io:
 }
 
 fn print_turn(rt: &impl Print, turn: &Turn) -> io::Result<()> {
-    match &turn.call {
-        Call::Lay(entry) => {
-            print!(rt; "enter ")?;
-            print_entry(rt, entry)?;
-            match turn.answer {
-                Some(Answer::Laid(Ok(()))) => println!(rt; ": accepted"),
-                _ => println!(rt; ": refused"),
-            }
-        }
-        Call::Undo => match turn.answer {
-            Some(Answer::Undone(Ok(entry))) => {
-                print!(rt; "undo ")?;
-                print_entry(rt, &entry)?;
-                println!(rt; ": accepted")
-            }
-            _ => println!(rt; "undo: refused"),
-        },
-        Call::Sift(buffers) => print_sift(rt, buffers, turn.answer),
+    match (&turn.call, turn.answer) {
+        (Call::Lay(entry), Some(Answer::Laid(Ok(())))) => println!(rt;
+            "enter {}: accepted",
+            Laid(*entry)
+        ),
+        (Call::Lay(entry), _) => println!(rt; "enter {}: refused", Laid(*entry)),
+        (Call::Undo, Some(Answer::Undone(Ok(entry)))) => println!(rt;
+            "undo {}: accepted",
+            Laid(entry)
+        ),
+        (Call::Undo, _) => println!(rt; "undo: refused"),
+        (Call::Sift(buffers), answer) => print_sift(rt, buffers, answer),
     }
 }
 

@@ -1,4 +1,5 @@
 pub mod Copied
 pub mod Counts
 pub mod Filling
+pub mod Found
 pub mod Tally

@@ -1,3 +1,4 @@
 pub mod Copy
 pub mod Rows
 pub mod Steps
+pub mod Graph

@@ -11,14 +11,9 @@ pub fn copy_lines<N: Network>(network: &N, lines: &mut [LineRecord])
     ensures same { Same (net_of (N.Network.meaning network.now).nodes lines.new) (N.Network.meaning network.now) }
     ensures limits { Limits (net_of (N.Network.meaning network.now).nodes lines.new) }
 {
-    for place in 0..lines.len() {
+    for (place, line) in lines.iter_mut().enumerate() {
         if let Some((tail, head, least, most)) = network::ask(network, place) {
-            lines[place] = LineRecord {
-                tail,
-                head,
-                least,
-                most,
-            };
+            *line = LineRecord::new(tail, head, least, most);
         }
     }
 }

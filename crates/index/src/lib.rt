@@ -2,5 +2,6 @@
 #![tactic(auto)]
 
 pub mod copy;
+pub mod graph;
 pub mod rows;
 pub mod step;

@@ -5,10 +5,10 @@ ghost use Rattle.index.specs.Steps.{along, against, origin, target};
 
 use network::line_record::LineRecord;
 
-#[derive(Clone, Copy, PartialEq, Eq, Debug)]
+#[derive(Clone, Copy, PartialEq, Eq, Debug, Default)]
 pub struct Step {
     pub line: u16,
-    // 0 along the line, 1 against it
+    // 0 along the line, 1 against it; a byte, so that memory which is lent from outside Rattle may hold anything
     pub direction: u8,
 }
 
@@ -34,17 +34,26 @@ impl Step {
         }
     }
 
+    // The node that the step leaves, and the one that it comes to.
+    fn ends(self, lines: &[LineRecord]) -> (usize, usize)
+        requires { self.line < length lines.now }
+        ensures { result ≡ (origin (net_of 0 lines.now) self, target (net_of 0 lines.now) self) }
+    {
+        let line = lines[self.line as usize];
+        let (tail, head) = (line.tail as usize, line.head as usize);
+        if self.direction == 0 {
+            (tail, head)
+        } else {
+            (head, tail)
+        }
+    }
+
     // The node that the step leaves.
     pub fn origin(self, lines: &[LineRecord]) -> usize
         requires { self.line < length lines.now }
         ensures { result ≡ origin (net_of 0 lines.now) self }
     {
-        let line = lines[self.line as usize];
-        if self.direction == 0 {
-            line.tail as usize
-        } else {
-            line.head as usize
-        }
+        self.ends(lines).0
     }
 
     // The node that it comes to.
@@ -52,11 +61,6 @@ impl Step {
         requires { self.line < length lines.now }
         ensures { result ≡ target (net_of 0 lines.now) self }
     {
-        let line = lines[self.line as usize];
-        if self.direction == 0 {
-            line.head as usize
-        } else {
-            line.tail as usize
-        }
+        self.ends(lines).1
     }
 }

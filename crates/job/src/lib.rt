@@ -8,6 +8,7 @@ use network::Network;
 use series::one_series::OneSeries;
 
 // Closes a job; refused exactly where lo is above hi.
+#[tactic(auto, using(crate::proofs::Refused::refused))]
 pub fn closed_job(series: OneSeries, lo: u16, hi: u16) -> Result<Closing<OneSeries>, CloseRefusal>
     ensures { ClosesJob series lo hi result }
 {

@@ -1,6 +1,5 @@
 // Whole jobs, run.
 use crate::closed_job;
-use layers::closing::CloseRefusal;
 use layers::entries::Entries;
 use network::Network;
 use network::legend::Legend;
@@ -9,18 +8,21 @@ use series::one_series::OneSeries;
 use series::records::{PartRecord, SignRecord};
 use std::test::Fail;
 
-// Each row: the bounds of the total, and whether closing is refused.
+// Each row: the bounds of the total, and the one line of the closed job, or the number of the refusal.
 #[test]
 fn bounds_out_of_order_are_refused(rt: HostRuntime) {
-    let rows = [(0, 0, None), (3, 65535, None), (1, 0, Some(9))];
-    for (lo, hi, refusal) in rows {
-        match closed_job(OneSeries::new(), lo, hi) {
-            Ok(job) => {
-                assert_eq!(rt; refusal, None);
-                assert_eq!(rt; job.line(0), Some((1, 0, lo, hi)));
-            }
-            Err(e) => assert_eq!(rt; refusal, Some(e.number())),
-        }
+    let rows = [
+        (0, 0, Ok(Some((1, 0, 0, 0)))),
+        (3, 65535, Ok(Some((1, 0, 3, 65535)))),
+        (1, 0, Err(9)),
+    ];
+    for (lo, hi, line) in rows {
+        let job = closed_job(OneSeries::new(), lo, hi);
+        assert_eq!(rt;
+            job.map(|job| job.line(0))
+                .map_err(|refusal| refusal.number()),
+            line
+        );
     }
 }
 

@@ -1,8 +1,6 @@
 -- A file whose form was found right is the file of what it holds.
-use Rattle.std.proofs.Common.{◌≡◌, ℕ, ◌+◌, ◌-◌, ◌*◌, ◌/◌, ◌%◌, ◌<◌, eqb, ltb, List, [], length, get_or, sym, ap, ◌∙◌, subst, arith}
+use Rattle.std.proofs.Common.{◌≡◌, ℕ, ◌+◌, ◌-◌, ◌*◌, ◌/◌, ◌%◌, ◌<◌, ◌≤◌, List, [], length, get_or, sym, subst, arith}
 use Rattle.std.proofs.lemmas.List.FromFn.{length-map-range_with_len, get_or-map-range_with_len}
-use Rattle.std.proofs.lemmas.Bool.{lt-ltb, le-ltb, ne_eqb, cond-true, cond-false}
-use Rattle.std.proofs.lemmas.Bool.Decides.{when_true, when_false}
 use Rattle.series.specs.Load.{no_record}
 use Rattle.series.specs.Sound.{no_sign}
 use Rattle.series.specs.declared.records.PartRecord.{PartRecord}
@@ -13,69 +11,50 @@ use Rattle.contents.specs.declared.act.Act.TheVariants.{Query}
 use Rattle.records.specs.Records.{PartBytes, SignBytes, ActBytes, GoodPart, GoodSign, part_from, sign_from, act_from}
 use Rattle.records.specs.Text.{SameText}
 use Rattle.layout.specs.Places.{block_count, blocks_for, filled, parts_start, signs_start, acts_start, record_at, parts_in, signs_in, name_at, text_at}
-use Rattle.layout.specs.Form.{expects, GoodBlock, sign_held, NewText}
+use Rattle.layout.specs.Form.{sign_held, NewText}
+use Rattle.layout.specs.declared.kind.Kind.{Kind}
+use Rattle.layout.specs.declared.kind.Kind.TheVariants.{Parts, Signs, Acts}
+use Rattle.layout.proofs.BlockKinds.{StandsAmong, GoodAs, good_as}
 use Rattle.jobfile.specs.Contents.{contents_of, parts_of, signs_of, names_of, texts_of, acts_from, acts_in, act_blocks}
 use Rattle.jobfile.specs.Format.{ActBlock, FileFor, FileOf}
 use Rattle.jobfile.specs.Formed.{Formed}
 use Rattle.jobfile.proofs.ActLists.{act_good}
 
--- What each block is to be.
-pub expects_part : (n m b : ℕ) → b < blocks_for n → expects n m (1 + b) ≡ (80, filled n b, filled n b)
-expects_part n m b h =
-    let back : 1 + b - 1 ≡ b = omega arith in
-    cond-false (eqb (1 + b) 0) _ _ (ne_eqb (1 + b) 0 (λ z. omega arith)) ∙ cond-true (ltb (1 + b) (signs_start n)) _ _ (lt-ltb (1 + b) (signs_start n) (omega arith)) ∙ ap (λ (k : ℕ). (80, filled n k, filled n k)) back
-
-pub expects_sign : (n m b : ℕ) → b < blocks_for m → expects n m (signs_start n + b) ≡ (83, filled m b, filled m b)
-expects_sign n m b h =
-    let at = signs_start n + b in
-    let back : signs_start n + b - signs_start n ≡ b = omega arith in
-    cond-false (eqb at 0) _ _ (ne_eqb at 0 (λ z. omega arith)) ∙ cond-false (ltb at (signs_start n)) _ _ (le-ltb at (signs_start n) (omega arith)) ∙ cond-true (ltb at (acts_start n m)) _ _ (lt-ltb at (acts_start n m) (omega arith)) ∙ ap (λ (k : ℕ). (83, filled m k, filled m k)) back
-
-pub expects_act : (n m a : ℕ) → expects n m (acts_start n m + a) ≡ (65, 1, 16)
-expects_act n m a =
-    let at = acts_start n m + a in
-    cond-false (eqb at 0) _ _ (ne_eqb at 0 (λ z. omega arith)) ∙ cond-false (ltb at (signs_start n)) _ _ (le-ltb at (signs_start n) (omega arith)) ∙ cond-false (ltb at (acts_start n m)) _ _ (le-ltb at (acts_start n m) (omega arith))
-
-block_as : (file : List ℕ) (n m b : ℕ) (e : ℕ × ℕ × ℕ) → expects n m b ≡ e → GoodBlock file n m b → Block e.0 b e.1 e.2 (block_of file b)
-block_as file n m b e p good = subst (λ (x : ℕ × ℕ × ℕ). Block x.0 b x.1 x.2 (block_of file b)) p good.block
-
 module _ (file : List ℕ) (formed : Formed file) where
   whole_length : length file ≡ 512 * block_count file
   whole_length = omega (arith, formed.read.sized.even)
 
+  -- a block of a kind, which is good
+  good : (k : Kind) (b : ℕ) → 1 ≤ b → b < block_count file → StandsAmong k (parts_in file) (signs_in file) b → GoodAs k file (parts_in file) (signs_in file) b
+  good k b some inside h = good_as k file (parts_in file) (signs_in file) b h (formed.blocks b some inside)
+
   part_block : (b : ℕ) → b < blocks_for (parts_in file) → Block 80 (parts_start + b) (filled (parts_in file) b) (filled (parts_in file) b) (block_of file (parts_start + b))
   part_block b h =
-      block_as file (parts_in file) (signs_in file) (1 + b) _ (expects_part (parts_in file) (signs_in file) b h) (formed.blocks (1 + b) (omega arith) (omega (arith, formed.whole.job)))
+      let back : 1 + b - 1 ≡ b = omega arith in
+      subst (λ (q : ℕ). Block 80 (1 + b) (filled (parts_in file) q) (filled (parts_in file) q) (block_of file (1 + b))) back (good Parts (1 + b) (omega arith) (omega (arith, formed.whole.job)) (omega arith, omega arith)).0
 
   sign_block : (b : ℕ) → b < blocks_for (signs_in file) → Block 83 (signs_start (parts_in file) + b) (filled (signs_in file) b) (filled (signs_in file) b) (block_of file (signs_start (parts_in file) + b))
   sign_block b h =
-      block_as file (parts_in file) (signs_in file) (signs_start (parts_in file) + b) _ (expects_sign (parts_in file) (signs_in file) b h) (formed.blocks (signs_start (parts_in file) + b) (omega arith) (omega (arith, formed.whole.job)))
+      let at = signs_start (parts_in file) + b in
+      let back : signs_start (parts_in file) + b - signs_start (parts_in file) ≡ b = omega arith in
+      subst (λ (q : ℕ). Block 83 at (filled (signs_in file) q) (filled (signs_in file) q) (block_of file at)) back (good Signs at (omega arith) (omega (arith, formed.whole.job)) (omega arith, omega arith)).0
 
   part_good : (p : ℕ) → p < parts_in file → GoodPart (record_at file parts_start p)
   part_good p h =
-      let b = 1 + p / 16 in
-      let inside : p / 16 < blocks_for (parts_in file) = omega arith in
-      let block = part_block (p / 16) inside in
-      let r : p % 16 < record_count (block_of file (1 + p / 16)) = omega (arith, block.laid.some) in
-      let form = (formed.blocks b (omega arith) (omega (arith, formed.whole.job))).records (p % 16) r in
-      when_true _ _ (lt-ltb b (signs_start (parts_in file)) (omega arith)) (when_false _ _ (ne_eqb b 0 (λ z. omega arith)) form)
+      let block = part_block (p / 16) (omega arith) in
+      (good Parts (1 + p / 16) (omega arith) (omega (arith, formed.whole.job)) (omega arith, omega arith)).1 (p % 16) (omega (arith, block.laid.some))
 
   sign_good : (s : ℕ) → s < signs_in file → GoodSign (record_at file (signs_start (parts_in file)) s) × NewText file (parts_in file) s
   sign_good s h =
-      let b = signs_start (parts_in file) + s / 16 in
-      let inside : s / 16 < blocks_for (signs_in file) = omega arith in
-      let block = sign_block (s / 16) inside in
-      let r : s % 16 < record_count (block_of file (signs_start (parts_in file) + s / 16)) = omega (arith, block.laid.some) in
-      let form = (formed.blocks b (omega arith) (omega (arith, formed.whole.job))).records (s % 16) r in
-      let good = when_true _ _ (lt-ltb b (acts_start (parts_in file) (signs_in file)) (omega arith)) (when_false _ _ (le-ltb b (signs_start (parts_in file)) (omega arith)) (when_false _ _ (ne_eqb b 0 (λ z. omega arith)) form)) in
+      let at = signs_start (parts_in file) + s / 16 in
+      let block = sign_block (s / 16) (omega arith) in
+      let found = (good Signs at (omega arith) (omega (arith, formed.whole.job)) (omega arith, omega arith)).1 (s % 16) (omega (arith, block.laid.some)) in
       let is : sign_held (parts_in file) (signs_start (parts_in file) + s / 16) (s % 16) ≡ s = omega arith in
-      (good.0, subst (NewText file (parts_in file)) is good.1)
+      (found.0, subst (NewText file (parts_in file)) is found.1)
 
   act_block : (a : ℕ) → a < act_blocks file → ActBlock file (acts_from file + a) (acts_in file a)
   act_block a h =
-      let b = acts_from file + a in
-      let good = formed.blocks (acts_from file + a) (omega arith) (omega arith) in
-      let block = block_as file (parts_in file) (signs_in file) (acts_from file + a) _ (expects_act (parts_in file) (signs_in file) a) good in
+      let block = (good Acts (acts_from file + a) (omega arith) (omega arith) (omega arith)).0 in
       let k : length (acts_in file a) ≡ record_count (block_of file (acts_from file + a)) = length-map-range_with_len _ 0 _ in
       record {
         some = omega (arith, k, block.laid.some);
@@ -86,7 +65,7 @@ module _ (file : List ℕ) (formed : Formed file) where
         };
         held = λ r l.
             let inside : r < record_count (block_of file (acts_from file + a)) = omega (arith, k) in
-            subst (λ (x : Act). ActBytes x (record_of (block_of file (acts_from file + a)) r)) (sym (get_or-map-range_with_len (λ r. act_from (record_of (block_of file (acts_from file + a)) r)) 0 (record_count (block_of file (acts_from file + a))) r r Query inside (omega arith))) (act_good file (acts_from file + a) (omega arith) r formed (omega arith) inside);
+            subst (λ (x : Act). ActBytes x (record_of (block_of file (acts_from file + a)) r)) (sym (get_or-map-range_with_len (λ r. act_from (record_of (block_of file (acts_from file + a)) r)) 0 (record_count (block_of file (acts_from file + a))) r r Query inside (omega arith))) (act_good file (acts_from file + a) r (omega arith) formed (omega arith) inside);
       }
 
   part_held : (p : ℕ) → p < parts_in file → PartBytes (get_or (parts_of file) p no_record) (get_or (names_of file (parts_in file)) p []) (record_at file parts_start p)

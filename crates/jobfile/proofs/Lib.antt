@@ -1,6 +1,5 @@
 pub mod ActLists
 pub mod Checks
-pub mod Copied
 pub mod Files
 pub mod Listed
 pub mod Loaded

@@ -1,20 +1,29 @@
 -- What was loaded is the job of the file.
-use Rattle.std.proofs.Common.{◌≡◌, ℕ, List, ◌++◌, take, ap, ◌∙◌, subst}
+use Rattle.std.proofs.Common.{◌≡◌, ℕ, List, length, Ok, Err, Result, MatchResult, sym, subst}
+use Rattle.std.proofs.lemmas.List.FromFn.{length-map-range_with_len}
+use Rattle.series.specs.Job.{job_of}
+use Rattle.series.specs.Load.{job_from, Loadable, LoadRefused}
+use Rattle.series.specs.declared.load.LoadRefusal.{LoadRefusal}
+use Rattle.series.specs.declared.one_series.OneSeries.{OneSeries}
 use Rattle.series.specs.declared.records.PartRecord.{PartRecord}
 use Rattle.series.specs.declared.records.SignRecord.{SignRecord}
-use Rattle.records.specs.Records.{part_from, sign_from}
-use Rattle.layout.specs.Places.{parts_start, signs_start, record_at, parts_in, signs_in}
+use Rattle.layout.specs.Places.{parts_in, signs_in}
 use Rattle.jobfile.specs.Contents.{parts_of, signs_of}
-use Rattle.jobfile.proofs.Copied.{front_copied}
+use Rattle.jobfile.specs.Reading.{SeriesMade}
+use Rattle.jobfile.specs.declared.fault.JobFault.{JobFault}
+use Rattle.jobfile.specs.declared.fault.JobFault.TheVariants.{Load}
 
-module _ (file : List ℕ) where
-  pub front_parts : (n : ℕ) (old now' : List PartRecord) → n ≡ parts_in file → now' ≡ parts_of file ++ old → take n now' ≡ parts_of file
-  front_parts n old now' e is = ap (λ (k : ℕ). take k now') e ∙ front_copied (λ p. part_from (record_at file parts_start p)) (parts_in file) old now' is
+module _ (file : List ℕ) (parts : List PartRecord) (signs : List SignRecord) (p : parts ≡ parts_of file) (s : signs ≡ signs_of file) where
+  -- what holds of the records that were handed over, and of how many they are, holds of the file's
+  of_file : (P : ℕ → ℕ → List PartRecord → List SignRecord → Type 0) → P (length parts) (length signs) parts signs → P (parts_in file) (signs_in file) (parts_of file) (signs_of file)
+  of_file P h =
+      let all = subst (λ (x : List SignRecord). P (length (parts_of file)) (length x) (parts_of file) x) s (subst (λ (x : List PartRecord). P (length x) (length signs) x signs) p h) in
+      subst (λ (m : ℕ). P (parts_in file) m (parts_of file) (signs_of file)) (length-map-range_with_len _ 0 (signs_in file)) (subst (λ (n : ℕ). P n (length (signs_of file)) (parts_of file) (signs_of file)) (length-map-range_with_len _ 0 (parts_in file)) all)
 
-  pub front_signs : (m : ℕ) (old now' : List SignRecord) → m ≡ signs_in file → now' ≡ signs_of file ++ old → take m now' ≡ signs_of file
-  front_signs m old now' e is = ap (λ (k : ℕ). take k now') e ∙ front_copied (λ s. sign_from (record_at file (signs_start (parts_in file)) s)) (signs_in file) old now' is
-
-  -- what holds of the numbers and records that were handed over holds of the file's
-  pub of_file : (P : ℕ → ℕ → List PartRecord → List SignRecord → Type 0) (n m : ℕ) (parts : List PartRecord) (signs : List SignRecord) → n ≡ parts_in file → m ≡ signs_in file → parts ≡ parts_of file → signs ≡ signs_of file → P n m parts signs → P (parts_in file) (signs_in file) (parts_of file) (signs_of file)
-  of_file P n m parts signs a b c d h =
-      subst (λ (x : List SignRecord). P (parts_in file) (signs_in file) (parts_of file) x) d (subst (λ (x : List PartRecord). P (parts_in file) (signs_in file) x signs) c (subst (λ (x : ℕ). P (parts_in file) x parts signs) b (subst (λ (x : ℕ). P x m parts signs) a h)))
+  -- loaded, the network is that of the file; refused, the fault tells the refusal and how many parts there are
+  pub series_made : (n : ℕ) (was : Result OneSeries LoadRefusal) (r : Result OneSeries JobFault) → n ≡ parts_in file
+      → MatchResult was (λ x. Loadable (length parts) (length signs) parts signs × (job_of x ≡ job_from (length parts) (length signs) parts signs)) (LoadRefused (length parts) (length signs) parts signs)
+      → MatchResult was (λ x. r ≡ Ok x) (λ e. r ≡ Err (Load e n))
+      → SeriesMade file r
+  series_made n (Ok x) r count loaded is = subst (SeriesMade file) (sym is) (of_file (λ n m parts signs. Loadable n m parts signs × (job_of x ≡ job_from n m parts signs)) loaded)
+  series_made n (Err e) r count loaded is = subst (SeriesMade file) (sym is) (count, of_file (λ n m parts signs. LoadRefused n m parts signs e) loaded)

@@ -22,6 +22,7 @@ pub enum JobFault {
     Unordered,
 }
 
+// By hand: the contracts of `?` go by `from_gives`, and the derive of `thiserror` gives none.
 impl From<RecordFault> for JobFault {
     ghost from_gives = { λ e r. r ≡ Record e };
 
@@ -31,6 +32,7 @@ impl From<RecordFault> for JobFault {
 }
 
 impl JobFault {
+    // The numbers of refusals are the product's own, so each variant has its own here.
     pub fn number(self) -> u8
         ensures { result ≡ (job_told self).0 }
     {

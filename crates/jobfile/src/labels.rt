@@ -1,40 +1,15 @@
-// The numbers of the head, and the names and texts as parts of the file.
-ghost use Rattle.std.specs.Prelude.{◌≡◌, min};
-ghost use Rattle.layout.specs.Places.{parts_in, signs_in, least_total, most_total};
+// The names and texts, as parts of the file.
+ghost use Rattle.std.specs.Prelude.{◌≡◌, ◌<◌, ◌≤◌, min, map};
+ghost use Rattle.std.specs.List.{slice_get, range_with_len};
+ghost use Rattle.std.specs.Option.{option_map};
+ghost use Rattle.records.specs.Records.{label_of};
+ghost use Rattle.layout.specs.Places.{record_at};
 ghost use Rattle.jobfile.specs.Small.{handed_out, small_labels};
 
 use crate::file::JobFile;
-use blocks::bytes::byte;
 use contents::labels::Labels;
-use layout::places::{record_at, record_of, signs_start};
+use layout::places::{record_at, signs_start};
 use records::label::label;
-
-impl<'a> JobFile<'a> {
-    pub fn part_count(&self) -> u8
-        ensures { result ≡ parts_in self.now.file.now }
-    {
-        byte(record_of(self.file, 0, 0), 0)
-    }
-
-    pub fn sign_count(&self) -> u8
-        ensures { result ≡ signs_in self.now.file.now }
-    {
-        byte(record_of(self.file, 0, 0), 1)
-    }
-
-    // The bounds of the total.
-    pub fn least_total(&self) -> u8
-        ensures { result ≡ least_total self.now.file.now }
-    {
-        byte(record_of(self.file, 0, 0), 2)
-    }
-
-    pub fn most_total(&self) -> u8
-        ensures { result ≡ most_total self.now.file.now }
-    {
-        byte(record_of(self.file, 0, 0), 3)
-    }
-}
 
 // The first 64 of so many parts or signs.
 fn at_most_64(count: u8) -> usize
@@ -43,6 +18,19 @@ fn at_most_64(count: u8) -> usize
     usize::from(count).min(64)
 }
 
+// The label, in a field of so many bytes, of the record k of so many, whose blocks begin with `start`.
+#[tactic(auto, using(crate::proofs::Listed::listed))]
+fn label_at(file: &[u8], start: usize, count: usize, k: usize, size: usize) -> Option<&[u8]>
+    requires { (start < 256) × (count ≤ 64) }
+    ensures { option_map (λ x. x.now) result ≡ slice_get (map (λ k. label_of size (record_at file.now start k)) (range_with_len 0 count)) k }
+{
+    if k >= count {
+        return None;
+    }
+    Some(label(record_at(file, start, k), size))
+}
+
+#[tactic(auto, using(crate::proofs::Listed::listed))]
 impl<'a> Labels for JobFile<'a> {
     ghost labelled = { handed_out };
 
@@ -57,19 +45,11 @@ impl<'a> Labels for JobFile<'a> {
     }
 
     fn name(&self, part: usize) -> Option<&[u8]> {
-        if part >= at_most_64(self.part_count()) {
-            return None;
-        }
-        Some(label(record_at(self.file, 1, part), 20))
+        label_at(self.file, 1, at_most_64(self.part_count()), part, 20)
     }
 
     fn text(&self, sign: usize) -> Option<&[u8]> {
-        if sign >= at_most_64(self.sign_count()) {
-            return None;
-        }
-        Some(label(
-            record_at(self.file, signs_start(self.part_count()), sign),
-            8,
-        ))
+        let start = signs_start(self.part_count());
+        label_at(self.file, start, at_most_64(self.sign_count()), sign, 8)
     }
 }

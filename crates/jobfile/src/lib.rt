@@ -5,6 +5,7 @@ pub mod acts;
 mod check;
 pub mod fault;
 pub mod file;
+pub mod head;
 pub mod job_network;
 mod job_records;
 pub mod labels;

@@ -11,12 +11,7 @@ pub(crate) fn acts_of(heap: Global, job: &JobFile<'_>) -> Result<Vec<Act>, Alloc
     requires { Formed job.now.file.now }
     ensures { IfOk result (λ v. v.items ≡ acts_of job.now.file.now) }
 {
-    let mut acts = Vec::new(heap);
-    for k in 0..job.act_count() {
-        match job.act(k) {
-            Some(act) => acts.push(act)?,
-            None => unreachable(),
-        }
-    }
-    Ok(acts)
+    (0..job.act_count())
+        .filter_map(|k| job.act(k))
+        .collect(heap)
 }

@@ -30,11 +30,8 @@ fn run_job(heap: Global, job: &JobFile<'_>) -> Result<Vec<u8>, AllocError>
 pub fn run_file(heap: Global, file: &[u8]) -> Result<Vec<u8>, AllocError>
     ensures { IfOk result (λ v. Prints file.now v.items) }
 {
-    let mut parts = [PartRecord {
-        mask: 0,
-        standing: 0,
-    }; 64];
-    let mut signs = [SignRecord { least: 0, most: 0 }; 64];
+    let mut parts = [PartRecord::default(); 64];
+    let mut signs = [SignRecord::default(); 64];
     match read(file, &mut parts, &mut signs) {
         Ok(job) => run_job(heap, &job),
         Err(fault) => fault_text(heap, fault),

@@ -1,5 +1,4 @@
-pub mod Bits
-pub mod Determined
 pub mod Present
+pub mod Asked
 pub mod Standing
 pub mod Same

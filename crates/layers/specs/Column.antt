@@ -1,11 +1,10 @@
 -- The entries that stand in a column.
-use Rattle.std.specs.Prelude.{◌≡◌, List, [], ◌∷◌, ◌++◌, take, Some, None, Option}
+use Rattle.std.specs.Prelude.{◌≡◌, List, [], ◌∷◌, ◌++◌, Some, None, Option}
 use Rattle.layers.specs.declared.column.Column.{Column}
 use Rattle.layers.specs.declared.entry.Entry.{Entry}
 
--- the first of its places, as many as stand
 abbrev pub entries_of : Column → List Entry
-entries_of c = take c.count c.entries
+entries_of c = c.entries.items
 
 -- taking the last entry away: it is handed out; where none stands, nothing changes
 abbrev pub Popped : Column → Column → Option Entry → Type 0

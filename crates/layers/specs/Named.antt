@@ -1,5 +1,5 @@
--- Which lines entries name, kept as one bit for each line.
-use Rattle.std.specs.Prelude.{◌≡◌, ℕ, ◌/◌, ◌%◌, ◌^◌, ◌<◌, List, slice_index, slice_index_or}
+-- Which lines entries name, kept as one mark for each line.
+use Rattle.std.specs.Prelude.{◌≡◌, ℕ, Bool, true, false, List, All, slice_index_or}
 use Rattle.layers.specs.declared.entry.Bound.TheVariants.{AtLeast}
 use Rattle.layers.specs.declared.entry.Entry.{Entry}
 
@@ -7,10 +7,10 @@ use Rattle.layers.specs.declared.entry.Entry.{Entry}
 abbrev pub no_entry : Entry
 no_entry = record { line = 0; bound = AtLeast; amount = 0 }
 
--- the bit of a line among words of 64 bits
-abbrev pub bit_at : List ℕ → ℕ → ℕ
-bit_at words place = (slice_index words (place / 64) / 2 ^ (place % 64)) % 2
+-- the line at a place is marked
+abbrev pub marks : List Bool → ℕ → Bool
+marks named place = slice_index_or named place false
 
--- the lines that the first of these entries name have their bits
-abbrev pub Marked : List ℕ → List Entry → ℕ → Type 0
-Marked words entries count = (i : ℕ) → i < count → bit_at words (slice_index_or entries i no_entry).line ≡ 1
+-- the lines that these entries name are marked
+abbrev pub Marked : List Bool → List Entry → Type 0
+Marked named entries = All (λ e. marks named e.line ≡ true) entries

@@ -1,5 +1,5 @@
 -- The bounds that entries leave of a line, for every list of entries.
-use Rattle.std.specs.Prelude.{ℕ, Bool, cond, ◌&&◌, List, [], ◌∷◌, ◌==◌, nat_le}
+use Rattle.std.specs.Prelude.{ℕ, Bool, cond, ◌&&◌, List, fold, ◌==◌, nat_le}
 use Rattle.layers.specs.declared.entry.Bound.{Bound}
 use Rattle.layers.specs.declared.entry.Bound.TheVariants.{AtLeast, AtMost}
 use Rattle.layers.specs.declared.entry.Bounds.{Bounds}
@@ -20,5 +20,4 @@ narrow place b e = cond (e.line == place && within b e.amount) (tightened e.boun
 
 -- and after a list of them, the first first
 abbrev pub narrowed : ℕ → Bounds → List Entry → Bounds
-narrowed place b [] = b
-narrowed place b (e ∷ es) = narrowed place (narrow place b e) es
+narrowed place b es = fold (narrow place) b es

@@ -1,5 +1,5 @@
 -- Present bounds, and the entries that can stand: this is what the layer keeps, in the words of its users.
-use Rattle.std.specs.Prelude.{◌≡◌, ℕ, ◌<◌, min, max, Bool, true, false, cond, ◌&&◌, List, [], ◌∷◌, length, take, Result, ◌==◌, slice_index_or}
+use Rattle.std.specs.Prelude.{◌≡◌, ℕ, ◌<◌, min, max, Bool, true, false, ◌&&◌, List, map, filter, fold, length, take, Result, ◌==◌, slice_index_or}
 use Rattle.network.specs.Net.{Net, size, line}
 use Rattle.layers.specs.Named.{no_entry}
 use Rattle.layers.specs.Entries.{bounds_of, with_bounds, bounds_under, net_under, Accepted, Lays, Undoes}
@@ -12,12 +12,10 @@ use Rattle.layers.specs.declared.entry.Entry.{Entry}
 
 -- the highest, and the lowest, of a number and a list
 abbrev pub highest : ℕ → List ℕ → ℕ
-highest x [] = x
-highest x (y ∷ ys) = max y (highest x ys)
+highest x ys = fold max x ys
 
 abbrev pub lowest : ℕ → List ℕ → ℕ
-lowest x [] = x
-lowest x (y ∷ ys) = min y (lowest x ys)
+lowest x ys = fold min x ys
 
 -- two entries are of one kind
 abbrev pub same_bound : Bound → Bound → Bool
@@ -28,9 +26,7 @@ same_bound AtMost AtMost = true
 
 -- the amounts of the entries of one kind on the line at a place
 abbrev pub amounts : Bound → ℕ → List Entry → List ℕ
-amounts kind place [] = []
-amounts kind place (e ∷ es) =
-    cond (same_bound kind e.bound && e.line == place) (e.amount ∷ amounts kind place es) (amounts kind place es)
+amounts kind place es = map (λ e. e.amount) (filter (λ e. same_bound kind e.bound && e.line == place) es)
 
 -- The highest of a least and the "at least" amounts on the line, and the lowest of a most and the "at most" amounts.
 abbrev pub present_of : Bounds → List Entry → ℕ → Bounds

@@ -52,12 +52,7 @@ impl<N: Network> Closing<N> {
         if self.last.is_some() {
             return Err(CloseRefusal::AlreadyClosed);
         }
-        let line = LineRecord {
-            tail,
-            head,
-            least,
-            most,
-        };
+        let line = LineRecord::new(tail, head, least, most);
         if !fits(self.below.nodes(), self.below.lines(), line) {
             return Err(CloseRefusal::Unfit);
         }
@@ -78,12 +73,8 @@ impl<N: Network> Closing<N> {
         requires { lines ≡ size (N.Network.meaning self.now.below) }
         ensures { result ≡ standing_last (N.Network.meaning self.now.below) self.now.last }
     {
-        let line = self.last?;
-        if fits(self.below.nodes(), lines, line) {
-            Some(line)
-        } else {
-            None
-        }
+        self.last
+            .filter(|line| fits(self.below.nodes(), lines, *line))
     }
 }
 

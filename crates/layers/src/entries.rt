@@ -4,7 +4,6 @@ ghost use Rattle.layers.specs.Column.{entries_of};
 ghost use Rattle.layers.specs.Entries.{lay_number, undo_number, FindsBounds, LaysOn, UndoesOn};
 
 use crate::column::Column;
-use crate::column::stack::within;
 use crate::entry::{Bounds, Entry};
 use network::{Network, ask};
 
@@ -71,23 +70,20 @@ impl<N: Network> Entries<N> {
     }
 
     // The present bounds of the line at a place; none where there is no line.
+    #[tactic(auto, using(crate::proofs::Asked::line_under, crate::proofs::Asked::none_asked, crate::proofs::Asked::some_asked))]
     fn present(&self, place: usize) -> Option<Bounds>
         ensures { FindsBounds (N.Network.meaning self.now.below) (entries_of self.now.column) place result }
     {
-        let Some((_, _, least, most)) = ask(&self.below, place) else {
-            return None;
-        };
-        Some(self.column.bounds(place, Bounds { least, most }))
+        let (_, _, least, most) = ask(self, place)?;
+        Some(Bounds { least, most })
     }
 
     // The entry joins at the end. A refusal changes nothing.
     pub fn lay(&mut self, entry: Entry) -> Result<(), LayRefusal>
         ensures { LaysOn N.Network.meaning entry self.old self.new result }
     {
-        let Some(present) = self.present(entry.line) else {
-            return Err(LayRefusal::NoLine);
-        };
-        if !within(present, entry.amount) {
+        let present = self.present(entry.line).ok_or(LayRefusal::NoLine)?;
+        if !present.contain(entry.amount) {
             return Err(LayRefusal::OutOfBounds);
         }
         if self.column.is_full() {
@@ -101,10 +97,7 @@ impl<N: Network> Entries<N> {
     pub fn undo(&mut self) -> Result<Entry, UndoRefusal>
         ensures { UndoesOn self.old self.new result }
     {
-        match self.column.pop() {
-            Some(entry) => Ok(entry),
-            None => Err(UndoRefusal::NoEntry),
-        }
+        self.column.pop().ok_or(UndoRefusal::NoEntry)
     }
 
     // The network that the layer held.

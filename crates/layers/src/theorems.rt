@@ -3,22 +3,16 @@ ghost use Rattle.layers.specs.Present.{StandingEntriesGivePresentBounds, LayingK
 
 // While entries stand that calls have left, a line's least is the highest of the least below and the standing "at least" amounts
 // on it, and its most the lowest of the most below and the "at most" amounts.
-pub fn standing_entries_give_present_bounds() -> u8
+pub fn standing_entries_give_present_bounds()
     ensures { StandingEntriesGivePresentBounds }
-{
-    0
-}
+{}
 
 // Laying then goes by these bounds, and leaves entries of that sort again.
-pub fn laying_keeps_entries_standing() -> u8
+pub fn laying_keeps_entries_standing()
     ensures { LayingKeepsEntriesStanding }
-{
-    0
-}
+{}
 
 // So does an undo.
-pub fn undoing_keeps_entries_standing() -> u8
+pub fn undoing_keeps_entries_standing()
     ensures { UndoingKeepsEntriesStanding }
-{
-    0
-}
+{}

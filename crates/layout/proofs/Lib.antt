@@ -1,2 +1,2 @@
+pub mod BlockKinds
 pub mod Forms
-pub mod Lengths

@@ -1,2 +1,3 @@
 pub mod Form
+pub mod Kinds
 pub mod Places

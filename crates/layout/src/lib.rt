@@ -2,4 +2,6 @@
 #![tactic(auto)]
 
 pub mod form;
+pub mod kind;
 pub mod places;
+pub mod shape;

@@ -1,30 +1,30 @@
 // Where the blocks and records of a file stand.
 ghost use Rattle.std.specs.Prelude.{◌≡◌, ℕ, ◌+◌, ◌/◌, ◌^◌, ◌<◌, length};
 ghost use Rattle.blocks.specs.Block.{block_of, record_of};
-ghost use Rattle.layout.specs.Places.{filled, signs_start, acts_start, record_at};
+ghost use Rattle.layout.specs.Places.{blocks_for, filled, signs_start, record_at};
 
 use blocks::bytes::part;
 
-// The first block of the signs in a file of n parts.
-pub fn signs_start(n: u8) -> usize
-    ensures { result ≡ signs_start n }
+// How many blocks so many parts or signs fill, 16 to a block.
+pub(crate) fn blocks_for(count: u8) -> usize
+    ensures { result ≡ blocks_for count }
 {
-    1 + (usize::from(n) + 15) / 16
+    usize::from(count).div_ceil(16)
 }
 
-// The first block of the acts in a file of n parts and m signs.
-pub fn acts_start(n: u8, m: u8) -> usize
-    ensures { result ≡ acts_start n m }
-{
-    signs_start(n) + (usize::from(m) + 15) / 16
-}
-
-// How many of n parts or signs stand in block b of their kind.
-pub(crate) fn filled_at(n: u8, b: usize) -> u8
+// How many of so many parts or signs stand in block b of their kind.
+pub(crate) fn filled_at(count: u8, b: usize) -> u8
     requires { b < 65536 }
-    ensures { result ≡ filled n b }
+    ensures { result ≡ filled count b }
 {
-    usize::from(n).saturating_sub(16 * b).min(16) as u8
+    usize::from(count).saturating_sub(16 * b).min(16) as u8
+}
+
+// The first block of the signs in a file of so many parts.
+pub fn signs_start(parts: u8) -> usize
+    ensures { result ≡ signs_start parts }
+{
+    1 + blocks_for(parts)
 }
 
 // The block b of a file.

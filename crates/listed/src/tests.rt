@@ -5,6 +5,7 @@ use network::Network;
 use network::line_record::LineRecord;
 use std::test::Fail;
 
+// Both are written out, since a constant's value may not be a call.
 const LOOP: LineRecord = LineRecord {
     tail: 0,
     head: 0,
@@ -58,23 +59,8 @@ fn a_refusal_keeps_the_network(rt: HostRuntime) {
 
 #[test]
 fn the_first_bad_line_is_told(rt: HostRuntime) {
-    let above = LineRecord {
-        tail: 0,
-        head: 1,
-        least: 4,
-        most: 3,
-    };
-    let records = [
-        ACROSS,
-        above,
-        LineRecord {
-            tail: 2,
-            head: 0,
-            least: 0,
-            most: 0,
-        },
-        above,
-    ];
+    let above = LineRecord::new(0, 1, 4, 3);
+    let records = [ACROSS, above, LineRecord::new(2, 0, 0, 0), above];
     let mut network = Listed::new();
     assert_eq!(rt; network.load(2, 1, &records), Ok(()));
     assert_eq!(rt;

@@ -1,6 +1,7 @@
 -- What the memory of an accepted sift shows is decided by the lawful flows.
-use Rattle.std.proofs.Common.{◌≡◌, ℕ, ◌<◌, ◌≤◌, Bool, true, false, not, eqb, ltb, ◌≢◌, length, get_or, take, Some, None, Decides, Option, sym, refl, ◌∙◌, subst, ⊎_elim, arith, get_or-take}
-use Rattle.std.proofs.lemmas.Bool.{lt-ltb, and_from, and_parts, cases_eq, false≢true}
+use Rattle.std.proofs.Common.{◌≡◌, ℕ, ◌<◌, List, true, false, not, eqb, ltb, ◌≢◌, length, get_or, take, Some, None, Decides, Option, sym, ◌∙◌, subst, ⊎_elim, arith, get_or-take, length-take}
+use Rattle.std.proofs.lemmas.Bool.{not-true, lt-ltb, and_from, and_parts, cases_eq, cases_lt, false≢true}
+use Rattle.std.proofs.lemmas.List.{get_or_past}
 use Rattle.std.proofs.lemmas.Bool.Decides.{Decides-not, Decides-eqb}
 use Rattle.network.specs.Net.{Net, size}
 use Rattle.network.specs.Key.{Key, Keyed, Finds}
@@ -11,11 +12,11 @@ use Rattle.sift.specs.Workspace.{Workspace}
 use Rattle.rendering.specs.Tables.{fixed_at, table_of}
 use Rattle.listing.specs.Shows.{FixedOn, FreeOn, Shows}
 
-not_true : (b : Bool) → not b ≡ true → b ≡ false
-not_true true e = sym e
-not_true false e = refl
+-- a place that holds more than 0 lies within
+inside_nonzero : (xs : List ℕ) (l : ℕ) → 0 < get_or xs l 0 → l < length xs
+inside_nonzero xs l h = ⊎_elim (λ i. i) (λ past. absurd (omega (arith, h, get_or_past xs l 0 past))) (cases_lt l (length xs))
 
-module _ (g : Net) (w : Workspace) (a : Accepted g w) (flow : size g ≤ length w.flow) (verdicts : size g ≤ length w.verdicts) where
+module _ (g : Net) (w : Workspace) (a : Accepted g w) where
   module _ (l : ℕ) (inside : l < size g) (x : ℕ) where
     shown : at (take (size g) w.flow) l ≡ at w.flow l
     shown = get_or-take (size g) w.flow l 0 inside
@@ -31,9 +32,8 @@ module _ (g : Net) (w : Workspace) (a : Accepted g w) (flow : size g ≤ length 
     to_test : Fixed g l x → fixed_at w.flow w.verdicts (Some l) x ≡ true
     to_test h =
         let here : at w.flow l ≡ x = sym shown ∙ h (take (size g) w.flow) a.lawful in
-        let v-inside : l < length w.verdicts = omega arith in
-        let f-inside : l < length w.flow = omega arith in
-        ⊎_elim (λ v. and_from _ _ (lt-ltb _ _ v-inside) (and_from _ _ (lt-ltb _ _ f-inside) (and_from _ _ ((Decides-eqb (get_or w.verdicts l 0) 1).1 v.0) ((Decides-eqb (at w.flow l) x).1 here)))) (λ v. absurd (v.1.1.1 (h v.1.0 v.1.1.0 ∙ sym here))) (a.verdicts l inside)
+        let f-inside : l < length w.flow = omega (arith, a.lawful.long, length-take (size g) w.flow) in
+        ⊎_elim (λ v. and_from _ _ (lt-ltb _ _ (inside_nonzero w.verdicts l (omega (arith, v.0)))) (and_from _ _ (lt-ltb _ _ f-inside) (and_from _ _ ((Decides-eqb (get_or w.verdicts l 0) 1).1 v.0) ((Decides-eqb (at w.flow l) x).1 here)))) (λ v. absurd (v.1.1.1 (h v.1.0 v.1.1.0 ∙ sym here))) (a.verdicts l inside)
 
     line_decided : Decides (fixed_at w.flow w.verdicts (Some l) x) (Fixed g l x)
     line_decided = (from_test, to_test)
@@ -47,7 +47,7 @@ module _ (g : Net) (w : Workspace) (a : Accepted g w) (flow : size g ≤ length 
 
   answer_free : (key : Key) (r : Role) (o : Option ℕ) → Finds g key r o → not (fixed_at w.flow w.verdicts o 0) ≡ true → FreeOn g o 0
   answer_free key r None h e = absurd h
-  answer_free key r (Some l) h e = line_free l h.inside (not_true _ e)
+  answer_free key r (Some l) h e = line_free l h.inside (not-true _ e)
 
   -- the line that a legend answers
   answer_decided : (key : Key) (r : Role) (o : Option ℕ) (x : ℕ) → Finds g key r o → Decides (fixed_at w.flow w.verdicts o x) (FixedOn g o x)

@@ -5,7 +5,8 @@ use Rattle.network.specs.Net.{Net}
 use Rattle.network.specs.Key.{Key}
 use Rattle.sift.specs.Sifted.{Sifted}
 use Rattle.sift.specs.Workspace.{Workspace, Short}
-use Rattle.sift.specs.declared.refusal.SiftRefusal.TheVariants.{NoFlow as NoneFound}
+use Rattle.sift.specs.declared.refusal.SiftRefusal.{SiftRefusal}
+use Rattle.sift.specs.declared.refusal.SiftRefusal.TheVariants.{Short as SiftShort, NoFlow as NoneFound}
 use Rattle.text.specs.Placed.{Placed}
 use Rattle.listing.specs.Shows.{Matching, Lists}
 use Rattle.listing.specs.declared.refusal.ListingRefusal.{ListingRefusal}
@@ -16,6 +17,11 @@ abbrev pub listing_told : ListingRefusal → ℕ × Option (ℕ × ℕ)
 listing_told TooShort = (1, None)
 listing_told Differ = (19, None)
 listing_told (NoFlow d s) = (20, Some (d, s))
+
+-- a refusal of the sift, as the listing passes it on
+abbrev pub passed_on : SiftRefusal → ListingRefusal
+passed_on SiftShort = TooShort
+passed_on (NoneFound d s) = NoFlow d s
 
 -- a buffer is short: the text, or one of the sift's
 abbrev pub ShortOf : Net → List ℕ → Workspace → Type 0

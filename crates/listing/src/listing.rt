@@ -1,40 +1,27 @@
 // The listing call: memory of any length and content, a legend of any make and its labels.
-ghost use Rattle.std.specs.Prelude.{◌≡◌, ◌<◌, Decides};
-ghost use Rattle.listing.specs.Listing.{ListsOn};
+ghost use Rattle.std.specs.Prelude.{◌≡◌, ◌≤◌, Decides, length};
+ghost use Rattle.listing.specs.Listing.{ListsOn, ShortOf};
 ghost use Rattle.listing.specs.Shows.{Matching};
-ghost use Rattle.sift.specs.Workspace.{Short};
+ghost use Rattle.rendering.specs.Render.{render};
+ghost use Rattle.rendering.specs.Tables.{table_of};
+ghost use Rattle.sift.specs.Memory.{SameLoan, contents};
+ghost use Rattle.text.specs.Placed.{Placed};
 
 use crate::refusal::ListingRefusal;
 use contents::labels::Labels;
-use index::step::Step;
 use network::legend::Legend;
-use rendering::parts::put_parts;
-use sift::refusal::SiftRefusal;
+use rendering::shown::Shown;
+use sift::memory::Memory;
 use sift::sift::sift;
 
 // Room for any listing.
 pub const LISTING_TEXT: usize = 40960;
 
-// Whether one of the six buffers of a sift is short.
-fn is_short<L: Legend>(
-    legend: &L,
-    flow: &[u32],
-    verdicts: &[u8],
-    bottleneck: &[u8],
-    marks: &[u8],
-    nodes: &[u16],
-    steps: &[Step],
-) -> bool
-    ensures { Decides result (Short (L.Network.meaning legend.now) (record { flow = flow.now; verdicts = verdicts.now; bottleneck = bottleneck.now; marks = marks.now; nodes = nodes.now; steps = steps.now })) }
+// Whether the text or a buffer of the sift is short.
+fn is_short<L: Legend>(legend: &L, text: &[u8], memory: &Memory<'_>) -> bool
+    ensures { Decides result (ShortOf (L.Network.meaning legend.now) text.now (contents memory.now)) }
 {
-    let n = legend.nodes();
-    let a = legend.lines();
-    flow.len() < a
-        || verdicts.len() < a
-        || bottleneck.len() < n
-        || marks.len() < n
-        || nodes.len() < n
-        || steps.len() < n
+    text.len() < LISTING_TEXT || memory.is_short(legend)
 }
 
 // Whether legend and labels have as many parts and as many signs.
@@ -44,33 +31,42 @@ fn matches<L: Legend, B: Labels>(legend: &L, labels: &B) -> bool
     legend.parts() == labels.parts() && legend.signs() == labels.signs()
 }
 
+// Writes the line of each part, as the memory of an accepted sift shows it.
+fn put_shown<L: Legend, B: Labels>(
+    legend: &L,
+    labels: &B,
+    memory: &Memory<'_>,
+    text: &mut [u8],
+) -> usize
+    requires { 40960 ≤ length text.old }
+    ensures { Placed text.old 0 (render (B.Labels.labelled labels.now) (table_of (L.Legend.key legend.now) memory.now.flow.now memory.now.verdicts.now)) text.new result }
+{
+    let shown = Shown {
+        legend,
+        labels,
+        flow: memory.flow,
+        verdicts: memory.verdicts,
+    };
+    shown.put_parts(text)
+}
+
 // Sifts the legend and writes a line for each part at the front of the text; tells how long they are. Refused with no change where
 // a buffer is short, or where the labels are not those of the legend; without a lawful flow the text stays as it was.
 pub fn listing<L: Legend, B: Labels>(
     legend: &L,
     labels: &B,
     text: &mut [u8],
-    flow: &mut [u32],
-    verdicts: &mut [u8],
-    bottleneck: &mut [u8],
-    marks: &mut [u8],
-    nodes: &mut [u16],
-    steps: &mut [Step],
+    memory: &mut Memory<'_>,
 ) -> Result<usize, ListingRefusal>
-    ensures { ListsOn (L.Network.meaning legend.now) (L.Legend.key legend.now) (B.Labels.labelled labels.now) text.old text.new (record { flow = flow.old; verdicts = verdicts.old; bottleneck = bottleneck.old; marks = marks.old; nodes = nodes.old; steps = steps.old }) (record { flow = flow.exit.now; verdicts = verdicts.new; bottleneck = bottleneck.new; marks = marks.new; nodes = nodes.new; steps = steps.new }) result }
+    ensures lent { SameLoan memory.old memory.new }
+    ensures lists { ListsOn (L.Network.meaning legend.now) (L.Legend.key legend.now) (B.Labels.labelled labels.now) text.old text.new (contents memory.old) (contents memory.new) result }
 {
-    if text.len() < LISTING_TEXT {
-        return Err(ListingRefusal::Short);
-    }
-    if is_short(legend, flow, verdicts, bottleneck, marks, nodes, steps) {
+    if is_short(legend, text, memory) {
         return Err(ListingRefusal::Short);
     }
     if !matches(legend, labels) {
         return Err(ListingRefusal::Differ);
     }
-    match sift(legend, flow, verdicts, bottleneck, marks, nodes, steps) {
-        Ok(()) => Ok(put_parts(legend, labels, flow, verdicts, text)),
-        Err(SiftRefusal::Short) => Err(ListingRefusal::Short),
-        Err(SiftRefusal::NoFlow(demand, supply)) => Err(ListingRefusal::NoFlow(demand, supply)),
-    }
+    sift(legend, memory)?;
+    Ok(put_shown(legend, labels, memory, text))
 }

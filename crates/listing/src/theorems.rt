@@ -2,8 +2,6 @@
 ghost use Rattle.listing.specs.Shows.{SameMeaningSameListing};
 
 // Listings of networks of the same meaning, with the same labels, are the same bytes; as those under the same entries.
-pub fn same_meaning_same_listing() -> u8
+pub fn same_meaning_same_listing()
     ensures { SameMeaningSameListing }
-{
-    0
-}
+{}

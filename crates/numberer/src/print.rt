@@ -1,10 +1,22 @@
 // Prints entries and numberings by names and signs.
-use crate::samples::Sample;
+use sample_jobs::sample::{Sample, name_at};
 use series::judge::UNSIGNED;
-use std::io;
+use std::{fmt, io};
 
-fn name(names: &[&'static str], place: usize) -> &'static str {
-    names.get(place).copied().unwrap_or("?")
+// What is entered of a part and a sign.
+#[derive(Clone, Copy)]
+pub enum Verb {
+    Is,
+    IsNot,
+}
+
+impl fmt::Display for Verb {
+    fn fmt<W: fmt::Write>(&self, f: &mut fmt::Formatter<W>) -> fmt::Result {
+        f.write_str(match self {
+            Verb::Is => "is",
+            Verb::IsNot => "is not",
+        })
+    }
 }
 
 // One line: each part with its sign.
@@ -12,28 +24,11 @@ pub fn print_numbering(rt: &impl Print, sample: &Sample, bytes: &[u8]) -> io::Re
     print!(rt; "{}: numbered", sample.name)?;
     for (part, byte) in sample.parts.iter().zip(bytes) {
         if *byte == UNSIGNED {
-            print!(rt; "; {part} has no sign")?;
+            print!(rt; "; {} has no sign", part.name)?;
         } else {
-            let sign = name(sample.signs, usize::from(*byte));
-            print!(rt; "; {part} is {sign}")?;
+            let sign = name_at(sample.signs, usize::from(*byte));
+            print!(rt; "; {} is {sign}", part.name)?;
         }
     }
     println!(rt; "")
-}
-
-pub fn print_entry(
-    rt: &impl Print,
-    sample: &Sample,
-    part: usize,
-    sign: usize,
-    has: bool,
-) -> io::Result<()> {
-    let verb = if has { "is" } else { "is not" };
-    println!(rt;
-        "{}: enter {} {} {}",
-        sample.name,
-        name(sample.parts, part),
-        verb,
-        name(sample.signs, sign)
-    )
 }

@@ -2,6 +2,5 @@ pub mod Within
 pub mod Passes
 pub mod Jobs
 pub mod Flowed
-pub mod Rejoined
 pub mod Refused
 pub mod Stacked

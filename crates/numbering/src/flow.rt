@@ -1,5 +1,5 @@
 // The call that turns a numbering into its flow.
-ghost use Rattle.std.specs.Prelude.{◌≡◌, ℕ, ◌+◌, ◌*◌, ◌<◌, ◌≤◌, length, if◌then◌else◌};
+ghost use Rattle.std.specs.Prelude.{◌≡◌, ℕ, ◌+◌, ◌*◌, ◌<◌, ◌≤◌, length};
 ghost use Rattle.series.specs.Job.{job_of, part_count, line_count};
 ghost use Rattle.series.specs.Numbering.{byte_at};
 ghost use Rattle.solutions.specs.Carried.{carried, flow_of};
@@ -12,17 +12,11 @@ use network::role::Role;
 use series::judge::{JudgeRefusal, UNSIGNED, signed, uses};
 use series::one_series::OneSeries;
 
-fn one_if(so: bool) -> u32
-    ensures { result ≡ (if so then 1 else 0) }
-{
-    if so { 1 } else { 0 }
-}
-
 // The byte of a part; past the end of the numbering there is 0.
 fn byte_of(bytes: &[u8], part: usize) -> u8
     ensures { result ≡ byte_at bytes.now part }
 {
-    if part < bytes.len() { bytes[part] } else { 0 }
+    bytes.get(part).copied().unwrap_or(0)
 }
 
 // What a numbering carries over a line, by what the line stands for.
@@ -31,8 +25,8 @@ fn amount(bytes: &[u8], role: Role) -> u32
     ensures { result ≡ carried bytes.now role }
 {
     match role {
-        Role::Standing(part) => one_if(byte_of(bytes, part) != UNSIGNED),
-        Role::Pair(part, sign) => one_if(usize::from(byte_of(bytes, part)) == sign),
+        Role::Standing(part) => u32::from(byte_of(bytes, part) != UNSIGNED),
+        Role::Pair(part, sign) => u32::from(usize::from(byte_of(bytes, part)) == sign),
         Role::Count(sign) => uses(bytes, sign) as u32,
         Role::Other => signed(bytes) as u32,
     }
@@ -44,8 +38,8 @@ fn write_amounts(series: &OneSeries, bytes: &[u8], flow: &mut [u32])
     requires flow { length flow.old ≡ line_count (job_of series.now) + 1 }
     ensures { flow.new ≡ flow_of (job_of series.now) bytes.now }
 {
-    for place in 0..flow.len() {
-        flow[place] = amount(bytes, series.role(place));
+    for (place, carried) in flow.iter_mut().enumerate() {
+        *carried = amount(bytes, series.role(place));
     }
 }
 
@@ -67,6 +61,6 @@ pub fn numbering_flow(
         return Err(JudgeRefusal::Short);
     }
     series.judge(lo, hi, numbering)?;
-    write_amounts(series, &numbering[0..parts], &mut flow[0..lines]);
+    write_amounts(series, &numbering[..parts], &mut flow[..lines]);
     Ok(())
 }

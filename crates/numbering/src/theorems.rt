@@ -3,8 +3,6 @@
 ghost use Rattle.numbering.specs.Stacked.{ClosedJobsAreLegendsOfJobs};
 
 // A one-series job closed by its total, with entries over it or without, is a legend of its whole job.
-pub fn closed_jobs_are_legends_of_jobs() -> u8
+pub fn closed_jobs_are_legends_of_jobs()
     ensures { ClosedJobsAreLegendsOfJobs }
-{
-    0
-}
+{}

@@ -5,8 +5,6 @@
 ghost use Rattle.open_signs.specs.Theorem.{ShownSignsAreThoseOfLawfulNumberings};
 
 // What is shown after a part's name is a sign of that part in some numbering lawful under the entries, and every such sign is shown.
-pub fn shown_signs_are_those_of_lawful_numberings() -> u8
+pub fn shown_signs_are_those_of_lawful_numberings()
     ensures { ShownSignsAreThoseOfLawfulNumberings }
-{
-    0
-}
+{}

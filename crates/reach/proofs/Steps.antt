@@ -1,9 +1,12 @@
 -- Steps and their reverse, and the rows of the index in which they stand.
-use Rattle.std.proofs.Common.{◌≡◌, ℕ, zero, suc, ◌+◌, ◌-◌, ◌<◌, ◌≤◌, Bool, true, false, cond, eqb, List, length, refl, arith}
+use Rattle.std.proofs.Common.{◌≡◌, ℕ, zero, suc, ◌+◌, ◌-◌, ◌<◌, Bool, true, false, cond, eqb, length, sym, refl, ap, ◌∙◌, subst, arith}
 use Rattle.network.specs.Net.{Net, Limits, size, line, tail, head}
-use Rattle.index.specs.Rows.{Leaves, Indexed, start}
+use Rattle.index.specs.Graph.{net, row_of}
+use Rattle.index.specs.Rows.{Leaves, Stands, start, step_at}
 use Rattle.index.specs.Steps.{origin, target}
+use Rattle.index.specs.declared.graph.Graph.{Graph}
 use Rattle.index.specs.declared.step.Step.{Step}
+use Rattle.index.proofs.Found.{indexed, row_ascends, row_length, row_step}
 use Rattle.reach.specs.Room.{reversed}
 
 turned : (d : ℕ) → d < 2 → (x y : ℕ) → cond (eqb (1 - d) 0) x y ≡ cond (eqb d 0) y x
@@ -31,10 +34,26 @@ module _ (g : Net) where
       pick true p q = p
       pick false p q = q
 
-module _ {g : Net} {starts : List ℕ} {steps : List Step} (indexed : Indexed g starts steps) where
-  -- a row lies inside the index
-  pub row_ascends : (v : ℕ) → v < g.nodes → start starts v ≤ start starts (v + 1)
-  row_ascends v l = indexed.ascending v (v + 1) (omega arith) (omega arith)
+-- what is known of the steps of a row
+module _ (graph : Graph) (v : ℕ) (node : v < graph.nodes) where
+  pub row_leaves : (i : ℕ) → i < length (row_of graph v) → Leaves (net graph) v (step_at (row_of graph v) i)
+  row_leaves i below =
+      let known = indexed graph in
+      let ascends = row_ascends known v node in
+      subst (Leaves (net graph) v) (sym (row_step graph v node i below))
+      (known.sound v (start graph.starts.now v + i) node (omega arith) (omega (arith, row_length graph v node)))
 
-  pub row_inside : (v : ℕ) → v < g.nodes → start starts (v + 1) ≤ length steps
-  row_inside v l = omega (arith, indexed.ascending (v + 1) g.nodes (omega arith) (omega arith), indexed.total, indexed.room)
+  -- each step that leaves the node stands in its row
+  pub row_complete : (s : Step) → Leaves (net graph) v s → Stands 0 (length (row_of graph v)) (row_of graph v) s
+  row_complete s leaves =
+      let known = indexed graph in
+      let stands = known.complete v s node leaves in
+      let below : stands.place - start graph.starts.now v < length (row_of graph v) = omega (arith, row_length graph v node, stands.from, stands.below) in
+      record {
+        place = stands.place - start graph.starts.now v;
+        from = omega arith;
+        below = below;
+        here =
+            row_step graph v node (stands.place - start graph.starts.now v) below
+            ∙ ap (step_at graph.steps.now) (omega (arith, stands.from)) ∙ stands.here;
+      }

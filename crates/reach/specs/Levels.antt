@@ -1,19 +1,10 @@
 -- What a search backwards from the lacking nodes finds: a level for each node that it reaches, and a step down from it.
-use Rattle.std.specs.Prelude.{◌≡◌, ℕ, ◌+◌, ◌<◌, Bool, List, length, nat_lt, slice_index}
-use Rattle.network.specs.Net.{Net, Limits, size, line, tail, head, least, most}
-use Rattle.network.specs.Flow.{at}
-use Rattle.flows.specs.Bounds.{Within}
-use Rattle.index.specs.Rows.{Leaves, Indexed}
+use Rattle.std.specs.Prelude.{◌≡◌, ℕ, ◌+◌, ◌<◌, Bool, List, nat_lt, slice_index}
+use Rattle.network.specs.Net.{Net, size, line, tail, head, least, most}
+use Rattle.index.specs.Rows.{Leaves}
 use Rattle.index.specs.Steps.{target}
 use Rattle.index.specs.declared.step.Step.{Step}
 use Rattle.reach.specs.Room.{room_of}
-
--- What a search goes over: a network with its index, and a flow within its bounds.
-pub record Ground (g : Net) (starts : List ℕ) (index : List Step) (flow : List ℕ) : Type 0 where
-  pub limits : Limits g
-  pub indexed : Indexed g starts index
-  pub long : length flow ≡ size g
-  pub bounds : Within g (at flow)
 
 -- the level of a node: how many steps it stands from a lacking node, or the number of nodes where it was not reached
 abbrev pub level : List ℕ → ℕ → ℕ

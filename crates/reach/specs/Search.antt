@@ -4,8 +4,10 @@ use Rattle.network.specs.Net.{Net}
 use Rattle.network.specs.Sum.{count_upto}
 use Rattle.network.specs.Records.{net_of}
 use Rattle.network.specs.declared.line_record.LineRecord.{LineRecord}
-use Rattle.index.specs.Rows.{start, step_at}
+use Rattle.index.specs.Graph.{net, row_of}
+use Rattle.index.specs.Rows.{step_at}
 use Rattle.index.specs.Steps.{target}
+use Rattle.index.specs.declared.graph.Graph.{Graph}
 use Rattle.index.specs.declared.step.Step.{Step}
 use Rattle.reach.specs.Room.{room_of, reversed}
 use Rattle.reach.specs.Levels.{level, Near, near, Down, Finished}
@@ -38,15 +40,15 @@ pub record Grown (g : Net) (cells : List ℕ) (count : ℕ) (distance cells' : L
 abbrev pub Tried : Net → (ℕ → ℕ) → List ℕ → Step → Type 0
 Tried g f distance s = 0 < room_of g f (reversed s) → Near g distance (target g s)
 
--- the same of the steps of node v's row that stand below place k
-abbrev pub RowTried : Net → (ℕ → ℕ) → List ℕ → List Step → List ℕ → ℕ → ℕ → Type 0
-RowTried g f starts index distance v k = (j : ℕ) → j < k → start starts v ≤ j → Tried g f distance (step_at index j)
+-- the same of the first k steps of node v's row
+abbrev pub RowTried : Graph → (ℕ → ℕ) → List ℕ → ℕ → ℕ → Type 0
+RowTried graph f distance v k = (j : ℕ) → j < k → Tried (net graph) f distance (step_at (row_of graph v) j)
 
--- While the row of node v is gone through, up to place k: what the queue and the levels are, and were when it began.
-pub record Visiting (g : Net) (f : ℕ → ℕ) (starts : List ℕ) (index : List Step) (v : ℕ) (cells : List ℕ) (count : ℕ) (distance : List ℕ) (k : ℕ) (cells' : List ℕ) (count' : ℕ) (distance' : List ℕ) : Type 0 where
-  pub front : Front g f cells' count' distance'
-  pub grown : Grown g cells count distance cells' count' distance'
-  pub tried : RowTried g f starts index distance' v k
+-- While the row of node v is gone through, k steps so far: what the queue and the levels are, and were when it began.
+pub record Visiting (graph : Graph) (f : ℕ → ℕ) (v : ℕ) (cells : List ℕ) (count : ℕ) (distance : List ℕ) (k : ℕ) (cells' : List ℕ) (count' : ℕ) (distance' : List ℕ) : Type 0 where
+  pub front : Front (net graph) f cells' count' distance'
+  pub grown : Grown (net graph) cells count distance cells' count' distance'
+  pub tried : RowTried graph f distance' v k
 
 -- The nodes below k that lack something are reached, all at level 0, and no other node is.
 pub record Seeded (n : ℕ) (lack : ℕ → ℕ) (k : ℕ) (cells : List ℕ) (count : ℕ) (distance : List ℕ) : Type 0 where

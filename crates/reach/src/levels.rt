@@ -1,29 +1,19 @@
 // Levels.
-ghost use Rattle.std.specs.Prelude.{◌≡◌, ℕ, ◌+◌, ◌<◌, ◌≤◌, length, nat_lt, slice_index, slice_set};
-ghost use Rattle.network.specs.Net.{line, least, most};
+ghost use Rattle.std.specs.Prelude.{◌≡◌, ◌+◌, ◌<◌, ◌≤◌, length, nat_lt, slice_set};
+ghost use Rattle.network.specs.Net.{size};
 ghost use Rattle.network.specs.Flow.{at};
-ghost use Rattle.network.specs.Records.{net_of};
+ghost use Rattle.index.specs.Graph.{net};
 ghost use Rattle.reach.specs.Room.{room_of, reversed};
-ghost use Rattle.reach.specs.Levels.{Ground, level, Finished, Levelled, Near};
+ghost use Rattle.reach.specs.Levels.{Finished, Levelled, Near};
 ghost use Rattle.reach.specs.Search.{Front, Grown, Seeded, Spreading};
 
+use crate::load::Load;
 use crate::room::{reverse, room};
 use buffers::places::Places;
 use index::step::Step;
-use network::line_record::LineRecord;
 
-// The node at a place of the queue.
-fn node_at(queue: &Places<'_, u16>, place: usize) -> usize
-    requires { place < queue.now.len }
-    ensures { result ≡ slice_index queue.now.cells.now place }
-{
-    match queue.get(place) {
-        Some(node) => node as usize,
-        None => unreachable(),
-    }
-}
-
-// Reaches a node: it stands at this level, and is queued.
+// Reaches a node: it stands at this level, and is queued. The queue and the levels stand in no struct of their own: what ties them
+// names places and steps, which a type holds only as a fact that they are there, so that each visit would have to find them again.
 fn enqueue(queue: &mut Places<'_, u16>, distance: &mut [u16], node: usize, level: usize)
     requires inside { node < length distance.old }
     requires room { queue.old.len < length queue.old.cells.now }
@@ -38,111 +28,67 @@ fn enqueue(queue: &mut Places<'_, u16>, distance: &mut [u16], node: usize, level
 }
 
 // Whether there is room to come back over the step.
-fn can_come(step: Step, lines: &[LineRecord], flow: &[u32]) -> bool
-    requires inside { step.line < length lines.now }
+fn can_come(load: &Load<'_>, step: Step) -> bool
+    requires inside { step.line < size (net load.now.graph) }
     requires direction { step.direction < 2 }
-    requires long { length flow.now ≡ length lines.now }
-    requires low { least (line (net_of 0 lines.now) step.line) ≤ at flow.now step.line }
-    requires high { at flow.now step.line ≤ most (line (net_of 0 lines.now) step.line) }
-    ensures { result ≡ nat_lt 0 (room_of (net_of 0 lines.now) (at flow.now) (reversed step)) }
+    ensures { result ≡ nat_lt 0 (room_of (net load.now.graph) (at load.now.flow.now) (reversed step)) }
 {
-    room(reverse(step), lines, flow) > 0
+    room(reverse(step), load.graph.lines(), load.flow) > 0
 }
 
 // Goes through the steps that leave a node, and reaches the nodes that can send more over them.
-fn visit(
-    nodes: usize,
-    lines: &[LineRecord],
-    starts: &[u16],
-    index: &[Step],
-    flow: &[u32],
-    queue: &mut Places<'_, u16>,
-    distance: &mut [u16],
-    node: usize,
-)
-    requires ground { Ground (net_of nodes lines.now) starts.now index.now flow.now }
-    requires front { Front (net_of nodes lines.now) (at flow.now) queue.old.cells.now queue.old.len distance.old }
-    requires node { node < nodes }
-    requires near { Near (net_of nodes lines.now) distance.old node }
-    ensures front { Front (net_of nodes lines.now) (at flow.now) queue.new.cells.now queue.new.len distance.new }
-    ensures grown { Grown (net_of nodes lines.now) queue.old.cells.now queue.old.len distance.old queue.new.cells.now queue.new.len distance.new }
-    ensures finished { Finished (net_of nodes lines.now) (at flow.now) distance.new node }
+fn visit(load: &Load<'_>, queue: &mut Places<'_, u16>, distance: &mut [u16], node: usize)
+    requires front { Front (net load.now.graph) (at load.now.flow.now) queue.old.cells.now queue.old.len distance.old }
+    requires node { node < load.now.graph.nodes }
+    requires near { Near (net load.now.graph) distance.old node }
+    ensures front { Front (net load.now.graph) (at load.now.flow.now) queue.new.cells.now queue.new.len distance.new }
+    ensures grown { Grown (net load.now.graph) queue.old.cells.now queue.old.len distance.old queue.new.cells.now queue.new.len distance.new }
+    ensures finished { Finished (net load.now.graph) (at load.now.flow.now) distance.new node }
 {
     let next = distance[node] as usize + 1;
-    for k in starts[node] as usize..starts[node + 1] as usize {
-        let step = index[k];
-        let other = step.target(lines);
-        if distance[other] as usize >= nodes && can_come(step, lines, flow) {
+    for &step in load.graph.row(node) {
+        let other = step.target(load.graph.lines());
+        if distance[other] as usize >= load.graph.nodes() && can_come(load, step) {
             enqueue(queue, distance, other, next);
         }
     }
 }
 
-// No node is reached.
-fn forget(nodes: usize, distance: &mut [u16])
-    requires { nodes < 65536 }
-    ensures { (v : ℕ) → v < length distance.old → level distance.new v ≡ nodes }
-{
-    for v in 0..distance.len() {
-        distance[v] = nodes as u16;
-    }
-}
-
 // Reaches the nodes that lack something.
-fn seed(nodes: usize, lack: &[u32], queue: &mut Places<'_, u16>, distance: &mut [u16])
-    requires few { nodes ≤ 1024 }
-    requires long { length lack.now ≡ nodes }
-    requires none { Seeded nodes (at lack.now) 0 queue.old.cells.now queue.old.len distance.old }
-    ensures { Seeded nodes (at lack.now) nodes queue.new.cells.now queue.new.len distance.new }
+fn seed(lack: &[u32], queue: &mut Places<'_, u16>, distance: &mut [u16])
+    requires few { length lack.now ≤ 1024 }
+    requires none { Seeded (length lack.now) (at lack.now) 0 queue.old.cells.now queue.old.len distance.old }
+    ensures { Seeded (length lack.now) (at lack.now) (length lack.now) queue.new.cells.now queue.new.len distance.new }
 {
-    for v in 0..nodes {
-        if lack[v] > 0 {
-            enqueue(queue, distance, v, 0);
+    for (node, amount) in lack.iter().enumerate() {
+        if *amount > 0 {
+            enqueue(queue, distance, node, 0);
         }
     }
 }
 
 // Visits the reached nodes in the order in which they are reached, until all are visited.
-fn spread(
-    nodes: usize,
-    lines: &[LineRecord],
-    starts: &[u16],
-    index: &[Step],
-    flow: &[u32],
-    queue: &mut Places<'_, u16>,
-    distance: &mut [u16],
-)
-    requires ground { Ground (net_of nodes lines.now) starts.now index.now flow.now }
-    requires front { Front (net_of nodes lines.now) (at flow.now) queue.old.cells.now queue.old.len distance.old }
-    ensures { Spreading (net_of nodes lines.now) (at flow.now) queue.old.cells.now queue.old.len distance.old queue.new.len queue.new.cells.now queue.new.len distance.new }
+fn spread(load: &Load<'_>, queue: &mut Places<'_, u16>, distance: &mut [u16])
+    requires { Front (net load.now.graph) (at load.now.flow.now) queue.old.cells.now queue.old.len distance.old }
+    ensures { Spreading (net load.now.graph) (at load.now.flow.now) queue.old.cells.now queue.old.len distance.old queue.new.len queue.new.cells.now queue.new.len distance.new }
 {
+    // by place, since the queue grows while it is gone through
     let mut done = 0;
-    while done < queue.len() {
-        let node = node_at(queue, done);
-        visit(nodes, lines, starts, index, flow, queue, distance, node);
+    while let Some(node) = queue.get(done) {
+        visit(load, queue, distance, node as usize);
         done += 1;
     }
 }
 
 // Gives each node from which a way with room leads to a lacking node its level, and the others the number of nodes.
-pub fn reach(
-    nodes: usize,
-    lines: &[LineRecord],
-    starts: &[u16],
-    index: &[Step],
-    flow: &[u32],
-    lack: &[u32],
-    queue: &mut [u16],
-    distance: &mut [u16],
-)
-    requires ground { Ground (net_of nodes lines.now) starts.now index.now flow.now }
-    requires lack { length lack.now ≡ nodes }
-    requires queue { length queue.old ≡ nodes }
-    requires distance { length distance.old ≡ nodes }
-    ensures { Levelled (net_of nodes lines.now) (at flow.now) (at lack.now) distance.new }
+pub fn reach(load: &Load<'_>, lack: &[u32], queue: &mut [u16], distance: &mut [u16])
+    requires lack { length lack.now ≡ load.now.graph.nodes }
+    requires queue { length queue.old ≡ load.now.graph.nodes }
+    requires distance { length distance.old ≡ load.now.graph.nodes }
+    ensures { Levelled (net load.now.graph) (at load.now.flow.now) (at lack.now) distance.new }
 {
-    forget(nodes, distance);
+    distance.fill(load.graph.nodes() as u16);
     let mut list = Places::new(queue);
-    seed(nodes, lack, &mut list, distance);
-    spread(nodes, lines, starts, index, flow, &mut list, distance);
+    seed(lack, &mut list, distance);
+    spread(load, &mut list, distance);
 }

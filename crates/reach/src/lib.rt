@@ -2,4 +2,5 @@
 #![tactic(auto)]
 
 pub mod levels;
+pub mod load;
 pub mod room;

@@ -1,7 +1,7 @@
 // Reads a job file from standard input, and prints what its blocks and records hold, or its first fault.
 #![tactic(auto)]
 
-ghost use Rattle.std.specs.Prelude.{◌≤◌, length, IfOk};
+ghost use Rattle.std.specs.Prelude.{◌+◌, ◌<◌, ◌^◌};
 
 use contents::act::Act;
 use contents::labels::Labels;
@@ -10,49 +10,53 @@ use jobfile::file::JobFile;
 use jobfile::read::read;
 use layout::places::signs_start;
 use series::records::{PartRecord, SignRecord};
-use std::io;
 use std::io::Read;
+use std::{fmt, io, str};
 
 // One byte more than the longest file: a longer input is refused by its length.
-const MOST: usize = 12801;
+const MOST: u64 = 12801;
 
-// Fills the buffer from an input, and tells how many bytes there were.
-fn fill(input: &mut impl Read, buffer: &mut [u8]) -> io::Result<usize>
-    ensures { IfOk result (λ n. n ≤ length buffer.old) }
-{
-    let mut count = 0;
-    for _ in 0..MOST {
-        if count >= buffer.len() {
-            break;
-        }
-        let more = input.read(&mut buffer[count..])?;
-        if more == 0 {
-            break;
-        }
-        count += more;
-    }
-    Ok(count)
+// Where a record stands: its block, and its place among the block's records.
+#[derive(Drop)]
+struct Place {
+    block: usize,
+    record: usize,
 }
 
-fn print_label(rt: &impl Print, label: Option<&[u8]>) -> io::Result<()> {
-    if let Some(bytes) = label {
-        for byte in bytes {
-            let letter = *byte as char;
-            print!(rt; "{letter}")?;
+impl Place {
+    // The place of the record k of a kind whose blocks begin at `start`.
+    fn of(start: usize, k: usize) -> Place
+        requires { start < 2 ^ 54 }
+    {
+        Place {
+            block: start + k / 16,
+            record: 1 + k % 16,
         }
     }
-    Ok(())
+}
+
+impl fmt::Display for Place {
+    fn fmt<W: fmt::Write>(&self, f: &mut fmt::Formatter<W>) -> fmt::Result {
+        write!(f, "block {} record {}", self.block, self.record)
+    }
+}
+
+// A label as text: the bytes of an accepted file's labels are printable.
+fn shown(label: Option<&[u8]>) -> &str {
+    label
+        .and_then(|bytes| str::from_utf8(bytes).ok())
+        .unwrap_or("")
 }
 
 fn print_parts(rt: &impl Print, job: &JobFile<'_>, parts: &[PartRecord]) -> io::Result<()> {
     for (p, part) in parts.iter().enumerate().take(job.parts()) {
-        let block = 1 + p / 16;
-        let place = 1 + p % 16;
-        print!(rt; "block {block} record {place}: part ")?;
-        print_label(rt, job.name(p))?;
-        let standing = part.standing;
-        let mask = part.mask;
-        println!(rt; ", standing {standing}, mask {mask}")?;
+        println!(rt;
+            "{}: part {}, standing {}, mask {}",
+            Place::of(1, p),
+            shown(job.name(p)),
+            part.standing,
+            part.mask
+        )?;
     }
     Ok(())
 }
@@ -60,13 +64,13 @@ fn print_parts(rt: &impl Print, job: &JobFile<'_>, parts: &[PartRecord]) -> io::
 fn print_signs(rt: &impl Print, job: &JobFile<'_>, signs: &[SignRecord]) -> io::Result<()> {
     let start = signs_start(job.part_count());
     for (s, sign) in signs.iter().enumerate().take(job.signs()) {
-        let block = start + s / 16;
-        let place = 1 + s % 16;
-        print!(rt; "block {block} record {place}: sign ")?;
-        print_label(rt, job.text(s))?;
-        let least = sign.least;
-        let most = sign.most;
-        println!(rt; ", {least} to {most}")?;
+        println!(rt;
+            "{}: sign {}, {} to {}",
+            Place::of(start, s),
+            shown(job.text(s)),
+            sign.least,
+            sign.most
+        )?;
     }
     Ok(())
 }
@@ -83,21 +87,21 @@ fn print_act(rt: &impl Print, act: Act) -> io::Result<()> {
 }
 
 fn print_acts(rt: &impl Print, job: &JobFile<'_>) -> io::Result<()> {
-    for k in 0..job.act_count() {
-        if let Some(act) = job.act(k) {
-            let number = k + 1;
-            print!(rt; "act {number}: ")?;
-            print_act(rt, act)?;
-        }
+    let acts = (0..job.act_count()).filter_map(|k| job.act(k));
+    for (number, act) in (1usize..).zip(acts) {
+        print!(rt; "act {number}: ")?;
+        print_act(rt, act)?;
     }
     Ok(())
 }
 
 fn print_fault(rt: &impl Print, fault: JobFault) -> io::Result<()> {
-    let number = fault.number();
-    let block = fault.block();
-    let place = fault.place();
-    println!(rt; "file {number} {block} {place}")
+    println!(rt;
+        "file {} {} {}",
+        fault.number(),
+        fault.block(),
+        fault.place()
+    )
 }
 
 fn print_job(
@@ -106,22 +110,22 @@ fn print_job(
     parts: &[PartRecord],
     signs: &[SignRecord],
 ) -> io::Result<()> {
-    let n = job.part_count();
-    let m = job.sign_count();
-    let lo = job.least_total();
-    let hi = job.most_total();
-    println!(rt; "block 0 record 1: {n} parts, {m} signs, total {lo} to {hi}")?;
+    println!(rt;
+        "{}: {} parts, {} signs, total {} to {}",
+        Place::of(0, 0),
+        job.part_count(),
+        job.sign_count(),
+        job.least_total(),
+        job.most_total()
+    )?;
     print_parts(rt, job, parts)?;
     print_signs(rt, job, signs)?;
     print_acts(rt, job)
 }
 
 fn show(rt: &impl Print, file: &[u8]) -> io::Result<()> {
-    let mut parts = [PartRecord {
-        mask: 0,
-        standing: 0,
-    }; 64];
-    let mut signs = [SignRecord { least: 0, most: 0 }; 64];
+    let mut parts = [PartRecord::default(); 64];
+    let mut signs = [SignRecord::default(); 64];
     match read(file, &mut parts, &mut signs) {
         Ok(job) => print_job(rt, &job, &parts, &signs),
         Err(fault) => print_fault(rt, fault),
@@ -129,7 +133,7 @@ fn show(rt: &impl Print, file: &[u8]) -> io::Result<()> {
 }
 
 fn main(rt: HostRuntime) -> io::Result<()> {
-    let mut buffer = [0u8; MOST];
-    let count = fill(&mut rt.stdin(), &mut buffer)?;
-    show(&rt, &buffer[..count])
+    let mut file = Vec::new(rt.alloc());
+    rt.stdin().take(MOST).read_to_end(&mut file)?;
+    show(&rt, &file)
 }

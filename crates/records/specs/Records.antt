@@ -3,6 +3,7 @@ use Rattle.std.specs.Prelude.{◌≡◌, ℕ, ◌+◌, ◌<◌, ◌≤◌, min, 
 use Rattle.blocks.specs.Bytes.{byte_at, number_at, Zeros}
 use Rattle.contents.specs.declared.act.Act.{Act}
 use Rattle.contents.specs.declared.act.Act.TheVariants.{Fix, Bar, Require, LeaveOut, Undo, Query}
+use Rattle.records.specs.declared.head.HeadRecord.{HeadRecord}
 use Rattle.series.specs.declared.records.PartRecord.{PartRecord}
 use Rattle.series.specs.declared.records.SignRecord.{SignRecord}
 
@@ -83,6 +84,9 @@ pub record ActBytes (act : Act) (bytes : List ℕ) : Type 0 where
 -- What the bytes of a record hold, if they hold anything.
 abbrev pub label_of : ℕ → List ℕ → List ℕ
 label_of size bytes = take (min (byte_at bytes 0) size) (drop 1 bytes)
+
+abbrev pub head_from : List ℕ → HeadRecord
+head_from bytes = record { parts = byte_at bytes 0; signs = byte_at bytes 1; least = byte_at bytes 2; most = byte_at bytes 3 }
 
 abbrev pub part_from : List ℕ → PartRecord
 part_from bytes = record { mask = number_at 8 bytes 22; standing = byte_at bytes 21 }

@@ -14,6 +14,7 @@ pub enum RecordFault {
     Act(usize, usize),
 }
 
+// By hand: the contracts of `?` go by `from_gives`, and the derive of `thiserror` gives none.
 impl From<BlockFault> for RecordFault {
     ghost from_gives = { λ e r. r ≡ Block e };
 
@@ -23,6 +24,7 @@ impl From<BlockFault> for RecordFault {
 }
 
 impl RecordFault {
+    // The numbers of refusals are the product's own, so each variant has its own here.
     pub fn number(self) -> u8
         ensures { result ≡ (record_told self).0 }
     {

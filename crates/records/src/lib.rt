@@ -6,4 +6,5 @@ pub mod fault;
 pub mod head;
 pub mod label;
 pub mod part;
+pub mod record;
 pub mod sign;

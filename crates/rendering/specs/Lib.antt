@@ -1,2 +1,3 @@
 pub mod Render
 pub mod Tables
+pub mod Shown

@@ -1,5 +1,4 @@
 // The text of a listing: for each part its name, a mark and the signs that are open to it, from the memory of a sift.
 #![tactic(auto)]
 
-pub mod parts;
-mod signs;
+pub mod shown;

@@ -1,3 +1,3 @@
-pub mod Kept
-pub mod Masks
 pub mod Tally
+pub mod Kept
+pub mod Roles

@@ -1,5 +1,5 @@
 -- A job: its parts and signs in order, and the network that they make.
-use Rattle.std.specs.Prelude.{ℕ, ◌+◌, ◌-◌, ◌*◌, ◌/◌, ◌%◌, ◌^◌, Bool, cond, List, [], ◌∷◌, ◌++◌, map, length, take, ◌==◌, nat_lt, slice_index_or}
+use Rattle.std.specs.Prelude.{ℕ, ◌+◌, ◌-◌, ◌*◌, ◌/◌, ◌%◌, ◌^◌, Bool, cond, List, [], ◌∷◌, ◌++◌, map, length, ◌==◌, nat_lt, slice_index_or}
 use Rattle.std.specs.List.{range_with_len}
 use Rattle.network.specs.Net.{Net, Line}
 use Rattle.series.specs.Sound.{no_sign}
@@ -13,9 +13,9 @@ pub record Job : Type 0 where
   pub parts : List Part
   pub signs : List SignRecord
 
--- the job that a one-series network holds: the first of the places that it owns
+-- the job that a one-series network holds
 abbrev pub job_of : OneSeries → Job
-job_of x = record { parts = take x.n x.parts; signs = take x.m x.signs }
+job_of x = record { parts = x.parts.items; signs = x.signs.items }
 
 -- how many parts and signs there are, and each of them by its place
 abbrev pub part_count : Job → ℕ

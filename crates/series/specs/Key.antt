@@ -1,5 +1,5 @@
 -- The legend of a one-series job: which line stands for which part, pair or sign.
-use Rattle.std.specs.Prelude.{ℕ, ◌+◌, ◌-◌, ◌*◌, ◌/◌, ◌%◌, cond, ◌&&◌, Some, None, nat_lt}
+use Rattle.std.specs.Prelude.{ℕ, ◌+◌, ◌-◌, ◌*◌, ◌/◌, ◌%◌, ◌<◌, cond, ◌&&◌, Some, None, nat_lt}
 use Rattle.network.specs.Key.{Key}
 use Rattle.network.specs.declared.role.Role.{Role}
 use Rattle.network.specs.declared.role.Role.TheVariants.{Standing, Pair, Count, Other}
@@ -22,3 +22,10 @@ key_of job = record {
   part_line = λ p. cond (nat_lt p (part_count job)) (Some p) None;
   pair_line = λ p s. cond (nat_lt p (part_count job) && nat_lt s (sign_count job)) (Some (pair_place job p s)) None;
 }
+
+-- it stands for a part, a pair or a sign of the job, or for something else
+abbrev pub InJob : Job → Role → Type 0
+InJob job (Standing p) = p < part_count job
+InJob job (Pair p s) = (p < part_count job) × (s < sign_count job)
+InJob job (Count s) = s < sign_count job
+InJob job Other = Unit {0}

@@ -1,12 +1,12 @@
 -- The network of a one-series job keeps the limits of a network: this is shown here, for every value of the type.
-use Rattle.std.specs.Prelude.{ℕ, zero, suc, ◌+◌, ◌-◌, ◌*◌, ◌/◌, ◌%◌, ◌<◌, ◌≤◌, List, length, take, nat_lt}
-use Rattle.std.proofs.Common.{arith, mul-zero, length-take, get_or-take}
+use Rattle.std.specs.Prelude.{ℕ, zero, suc, ◌+◌, ◌-◌, ◌*◌, ◌/◌, ◌%◌, ◌<◌, ◌≤◌}
+use Rattle.std.proofs.Common.{arith, mul-zero}
 use Rattle.std.proofs.lemmas.Nat.{mul-le, div_below, mod_below}
 use Rattle.std.proofs.lemmas.List.FromFn.{length-map-range_with_len, get_or-map-range_with_len}
-use Rattle.std.proofs.lemmas.Bool.{cond_both, ltb-true, ltb-false}
+use Rattle.std.proofs.lemmas.Bool.Decides.{nat_tests}
 use Rattle.network.specs.Net.{Fit, Limits, no_line}
 use Rattle.series.specs.Sound.{SoundSign}
-use Rattle.series.specs.Job.{Job, job_of, part_count, sign_count, part_at, sign_at, line_at, standing_line, pair_line, count_line, sink_node, job_net, line_count, signs_from, pairs_from, fewest, utmost, allows}
+use Rattle.series.specs.Job.{Job, job_of, part_count, sign_count, part_at, sign_at, line_at, standing_line, pair_line, count_line, sink_node, job_net, line_count, signs_from, pairs_from, fewest, utmost}
 use Rattle.series.specs.declared.one_series.OneSeries.{OneSeries}
 use Rattle.series.specs.declared.records.Standing.{Standing}
 use Rattle.series.specs.declared.records.Standing.TheVariants.{LeftOut, Optional, Required}
@@ -17,15 +17,8 @@ pub record Held (job : Job) : Type 0 where
   pub signs : sign_count job ≤ 64
   pub sound : (s : ℕ) → s < sign_count job → SoundSign (sign_at job s)
 
-take_le : {X : Type 0} (n : ℕ) (xs : List X) → length (take n xs) ≤ n
-take_le n xs = omega (arith, length-take n xs)
-
 pub held : (x : OneSeries) → Held (job_of x)
-held x = record {
-  parts = omega (arith, take_le x.n x.parts, x.parts_fit);
-  signs = omega (arith, take_le x.m x.signs, x.signs_fit);
-  sound = λ s h. let lt : s < x.m = omega (arith, take_le x.m x.signs) in rw get_or-take (x.signs_sound s lt);
-}
+held x = record { parts = x.parts_fit; signs = x.signs_fit; sound = x.signs_sound }
 
 standing_ordered : (s : Standing) → (fewest s ≤ utmost s) × (utmost s ≤ 65535)
 standing_ordered LeftOut = (omega arith, omega arith)
@@ -42,12 +35,7 @@ module _ (job : Job) (h : Held job) where
   standing_fits p l = let o = standing_ordered (part_at job p).standing in record { tail = omega arith; head = omega arith; ordered = o.0; small = o.1 }
 
   pair_fits : (p s : ℕ) → p < part_count job → s < sign_count job → Fit (sink_node job + 1) (pair_line job p s)
-  pair_fits p s l k = record {
-    tail = omega arith;
-    head = omega arith;
-    ordered = omega arith;
-    small = cond_both (allows (part_at job p).mask s) 1 0 (λ x. x ≤ 65535) (λ _. omega arith) (λ _. omega arith);
-  }
+  pair_fits p s l k = record { tail = omega arith; head = omega arith; ordered = omega arith; small = grind (arith, nat_tests) }
 
   count_fits : (s : ℕ) → s < sign_count job → Fit (sink_node job + 1) (count_line job s)
   count_fits s l = record { tail = omega arith; head = omega arith; ordered = (h.sound s l).0; small = omega (arith, (h.sound s l).1) }
@@ -60,10 +48,7 @@ module _ (job : Job) (h : Held job) where
       (div_below _ _ _ some inside, mod_below _ _ some)
 
   line_fits : (k : ℕ) → k < line_count job → Fit (sink_node job + 1) (line_at job k)
-  line_fits k l =
-      cond_both (nat_lt k (pairs_from job)) _ _ (Fit (sink_node job + 1)) (λ e. standing_fits k (ltb-true _ _ e)) (λ e.
-      cond_both (nat_lt k (signs_from job)) _ _ (Fit (sink_node job + 1)) (λ d. let q = pair_places k (ltb-false _ _ e) (ltb-true _ _ d) in pair_fits _ _ q.0 q.1) (λ d.
-      let u : signs_from job ≤ k = ltb-false _ _ d in count_fits (k - signs_from job) (omega arith)))
+  line_fits k l = grind (arith, nat_tests, standing_fits, pair_fits, count_fits, pair_places k)
 
   few_lines : line_count job ≤ 16384
   few_lines = omega (arith, mul-le (part_count job) (sign_count job) 64 64 h.parts h.signs, h.parts, h.signs)

@@ -1,5 +1,6 @@
 -- Loading a job from records: what is loaded, and which fault refuses it.
-use Rattle.std.specs.Prelude.{◌≡◌, ℕ, ◌^◌, ◌<◌, ◌≤◌, cond, ◌⊎◌, List, map, length, take, Some, None, Option, Result, MatchResult, ◌==◌, slice_index_or}
+use Rattle.std.specs.Prelude.{◌≡◌, ℕ, ◌^◌, ◌<◌, ◌≤◌, cond, ◌⊎◌, List, map, length, take, Some, None, Ok, Err, Option, Result, MatchResult, ◌==◌, slice_index_or}
+use Rattle.arrayvec.specs.ArrayVec.{ArrayVec}
 use Rattle.series.specs.Job.{Job, job_of}
 use Rattle.series.specs.Sound.{no_sign, SoundSign, SoundSigns}
 use Rattle.series.specs.declared.load.LoadRefusal.{LoadRefusal}
@@ -9,6 +10,7 @@ use Rattle.series.specs.declared.records.Part.{Part}
 use Rattle.series.specs.declared.records.PartRecord.{PartRecord}
 use Rattle.series.specs.declared.records.SignRecord.{SignRecord}
 use Rattle.series.specs.declared.records.Standing as standing
+use Rattle.series.specs.declared.records.UnknownStanding.{UnknownStanding}
 
 -- The number of each refusal, and the place of the part or the sign that it tells.
 abbrev pub load_told : LoadRefusal → ℕ × Option ℕ
@@ -21,6 +23,10 @@ load_told (Standing p) = (5, Some p)
 -- the standing that a byte of a record names: 0, 1 or 2
 abbrev pub standing_of : ℕ → standing.Standing
 standing_of b = cond (b == 0) standing.TheVariants.LeftOut (cond (b == 1) standing.TheVariants.Optional standing.TheVariants.Required)
+
+-- the standing that a byte names, or that it names none
+abbrev pub Names : ℕ → Result standing.Standing UnknownStanding → Type 0
+Names b r = MatchResult r (λ s. (b ≤ 2) × (s ≡ standing_of b)) (λ _. 2 < b)
 
 -- the part that a record describes
 abbrev pub part_of : PartRecord → Part
@@ -48,6 +54,36 @@ pub record SoundPart (m : ℕ) (r : PartRecord) : Type 0 where
 -- the first n part records are sound
 abbrev pub SoundParts : ℕ → ℕ → List PartRecord → Type 0
 SoundParts n m parts = (p : ℕ) → p < n → SoundPart m (slice_index_or parts p no_record)
+
+-- Why the record at a place is not kept: of the two faults of a part the standing comes first.
+abbrev pub PartUnsound : ℕ → ℕ → PartRecord → LoadRefusal → Type 0
+PartUnsound m place r e = ((e ≡ Standing place) × (2 < r.standing)) ⊎ ((e ≡ Mask place) × (r.standing ≤ 2) × (2 ^ m ≤ r.mask))
+
+abbrev pub SignUnsound : ℕ → SignRecord → LoadRefusal → Type 0
+SignUnsound place r e = (e ≡ Sign place) × (SoundSign r → ⊥)
+
+-- What is kept of the record at a place, among m signs.
+abbrev pub KeepsPart : ℕ → ℕ → PartRecord → Result Part LoadRefusal → Type 0
+KeepsPart m place r kept = MatchResult kept (λ part. SoundPart m r × (part ≡ part_of r)) (PartUnsound m place r)
+
+abbrev pub KeepsSign : ℕ → SignRecord → Result SignRecord LoadRefusal → Type 0
+KeepsSign place r kept = MatchResult kept (λ sign. SoundSign r × (sign ≡ r)) (SignUnsound place r)
+
+-- What a rule keeps of each of the first records, in order; and of all, or the refusal of the first that it refuses.
+pub record KeptFirst {R T E : Type 0} (Keeps : ℕ → R → Result T E → Type 0) (records : List R) (count : ℕ) (kept : List T) : Type 0 where
+  pub long : length kept ≡ count
+  pub each : (k : ℕ) → k < count → (r : R) (t : T) → Keeps k (slice_index_or records k r) (Ok (slice_index_or kept k t))
+
+pub record RefusedFirst {R T E : Type 0} (Keeps : ℕ → R → Result T E → Type 0) (records : List R) (e : E) : Type 0 where
+  pub place : ℕ
+  pub inside : place < length records
+  pub kept : List T
+  pub before : KeptFirst Keeps records place kept
+  pub refused : (r : R) → Keeps place (slice_index_or records place r) (Err e)
+
+abbrev pub KeepsAll : {R T E : Type 0} → (ℕ → R → Result T E → Type 0) → List R → Result (ArrayVec T) E → Type 0
+KeepsAll Keeps records result =
+    MatchResult result (λ v. KeptFirst Keeps records (length records) v.items) (RefusedFirst Keeps records)
 
 -- A slice is shorter than its count; or else there are more than 64 parts or signs.
 abbrev pub SizeFault : ℕ → ℕ → List PartRecord → List SignRecord → LoadRefusal → Type 0

@@ -4,6 +4,7 @@ use Rattle.network.specs.Sum.{count_upto}
 use Rattle.series.specs.Job.{Job, part_count, sign_count, part_at, sign_at, allows}
 use Rattle.series.specs.declared.judge.JudgeRefusal.{JudgeRefusal}
 use Rattle.series.specs.declared.judge.JudgeRefusal.TheVariants.{Short, Part, Sign, Total}
+use Rattle.series.specs.declared.records.Part as records
 use Rattle.series.specs.declared.records.Standing.{Standing}
 use Rattle.series.specs.declared.records.Standing.TheVariants.{LeftOut, Optional, Required}
 
@@ -29,10 +30,13 @@ StandingKept Required b = b ≡ unsigned → ⊥
 abbrev pub InMask : Job → ℕ → ℕ → Type 0
 InMask job mask b = b < sign_count job → allows mask b ≡ true
 
-pub record PartRule (job : Job) (p b : ℕ) : Type 0 where
+pub record PartKept (job : Job) (part : records.Part) (b : ℕ) : Type 0 where
   pub known : PlaceKnown job b
-  pub standing : StandingKept (part_at job p).standing b
-  pub mask : InMask job (part_at job p).mask b
+  pub standing : StandingKept part.standing b
+  pub mask : InMask job part.mask b
+
+abbrev pub PartRule : Job → (p b : ℕ) → Type 0
+PartRule job p b = PartKept job (part_at job p) b
 
 -- how many parts have the sign s, and how many have a sign
 abbrev pub uses : List ℕ → ℕ → ℕ

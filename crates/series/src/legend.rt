@@ -14,37 +14,23 @@ impl Legend for OneSeries {
     ghost keyed = { λ x. Keyed.keyed (job_of x) (held x) };
 
     fn parts(&self) -> usize {
-        self.n
+        self.parts.len()
     }
 
     fn signs(&self) -> usize {
-        self.m
+        self.signs.len()
     }
 
     fn role(&self, place: usize) -> Role {
-        if place < self.n {
-            return Role::Standing(place);
-        }
-        let pair = place - self.n;
-        let pairs = self.n * self.m;
-        if pair < pairs {
-            Role::Pair(pair / self.m, pair % self.m)
-        } else if pair - pairs < self.m {
-            Role::Count(pair - pairs)
-        } else {
-            Role::Other
-        }
+        self.role_at(place)
     }
 
     fn part_line(&self, part: usize) -> Option<usize> {
-        if part < self.n { Some(part) } else { None }
+        (part < self.parts.len()).then_some(part)
     }
 
     fn pair_line(&self, part: usize, sign: usize) -> Option<usize> {
-        if part < self.n && sign < self.m {
-            Some(self.n + part * self.m + sign)
-        } else {
-            None
-        }
+        let (n, m) = (self.parts.len(), self.signs.len());
+        (part < n && sign < m).then(|| n + part * m + sign)
     }
 }

@@ -1,102 +1,84 @@
 // The one-series network as a network: every question is answered by arithmetic.
-ghost use Rattle.std.specs.Prelude.{◌≡◌, ℕ, ◌+◌, ◌*◌, ◌<◌, ◌≤◌, [], if◌then◌else◌};
-ghost use Rattle.series.specs.Job.{job_of, part_count, sign_count, part_at, sign_at, allows, fewest, utmost, standing_line, pair_line, count_line, line_at, job_net};
+ghost use Rattle.std.specs.Prelude.{◌≡◌, ◌+◌, ◌<◌, ◌≤◌, []};
+ghost use Rattle.series.specs.Job.{job_of, part_count, sign_count, standing_line, pair_line, count_line, job_net};
+ghost use Rattle.series.specs.Key.{role_at, InJob};
 ghost use Rattle.series.specs.Limits.{limits_of};
 
 use crate::one_series::OneSeries;
-use crate::records::{Part, SignRecord, Standing};
+use arrayvec::ArrayVec;
 use network::Network;
+use network::role::Role;
 
 impl OneSeries {
     // A network without parts and signs: source and sink alone.
     pub fn new() -> OneSeries
         ensures { job_of result ≡ record { parts = []; signs = [] } }
     {
-        let part = Part {
-            mask: 0,
-            standing: Standing::LeftOut,
-        };
-        let sign = SignRecord { least: 0, most: 0 };
         OneSeries {
-            parts: [part; 64],
-            signs: [sign; 64],
-            n: 0,
-            m: 0,
+            parts: ArrayVec::new(),
+            signs: ArrayVec::new(),
         }
     }
 
-    pub(crate) fn part(&self, p: usize) -> Part
-        requires { p < self.now.n }
-        ensures { result ≡ part_at (job_of self.now) p }
+    // What the line at a place stands for: one line for each part, then for each pair, then for each sign.
+    pub(crate) fn role_at(&self, place: usize) -> Role
+        ensures role { result ≡ role_at (job_of self.now) place }
+        ensures inside { InJob (job_of self.now) result }
     {
-        self.parts[p]
-    }
-
-    pub(crate) fn sign(&self, s: usize) -> SignRecord
-        requires { s < self.now.m }
-        ensures { result ≡ sign_at (job_of self.now) s }
-    {
-        self.signs[s]
+        let (n, m) = (self.parts.len(), self.signs.len());
+        if place < n {
+            return Role::Standing(place);
+        }
+        let pair = place - n;
+        if pair < n * m {
+            Role::Pair(pair / m, pair % m)
+        } else if pair - n * m < m {
+            Role::Count(pair - n * m)
+        } else {
+            Role::Other
+        }
     }
 
     // The line of a part: source to part, by its standing.
     fn standing_line(&self, p: usize) -> (u16, u16, u16, u16)
-        requires { p < self.now.n }
+        requires { p < part_count (job_of self.now) }
         ensures { result ≡ standing_line (job_of self.now) p }
     {
-        let standing = self.part(p).standing;
-        (0, 1 + p as u16, fewest_of(standing), most_of(standing))
+        let standing = self.parts[p].standing;
+        (0, node(p), standing.fewest(), standing.utmost())
     }
 
     // The line of a pair: part to sign, 0..1 where the mask allows the sign.
     fn pair_line_at(&self, p: usize, s: usize) -> (u16, u16, u16, u16)
-        requires { (p < self.now.n) × (s < self.now.m) }
+        requires { (p < part_count (job_of self.now)) × (s < sign_count (job_of self.now)) }
         ensures { result ≡ pair_line (job_of self.now) p s }
     {
-        (
-            1 + p as u16,
-            (1 + self.n + s) as u16,
-            0,
-            most_of_pair(self.part(p).mask, s),
-        )
+        let allowed = self.parts[p].allows(s);
+        (node(p), node(self.parts.len() + s), 0, u16::from(allowed))
     }
 
     // The line of a sign: sign to sink, with the sign's bounds.
     fn count_line(&self, s: usize) -> (u16, u16, u16, u16)
-        requires { s < self.now.m }
+        requires { s < sign_count (job_of self.now) }
         ensures { result ≡ count_line (job_of self.now) s }
     {
-        let sign = self.sign(s);
+        let (n, m) = (self.parts.len(), self.signs.len());
+        let sign = self.signs[s];
         (
-            (1 + self.n + s) as u16,
-            (1 + self.n + self.m) as u16,
-            sign.least as u16,
-            sign.most as u16,
+            node(n + s),
+            node(n + m),
+            u16::from(sign.least),
+            u16::from(sign.most),
         )
     }
+}
 
-    // One line for each part, for each pair and for each sign.
-    fn line_count(&self) -> usize
-        ensures { result ≡ self.now.n + self.now.n * self.now.m + self.now.m }
-    {
-        self.n + self.n * self.m + self.m
-    }
-
-    // The line at a place.
-    fn line_at(&self, place: usize) -> (u16, u16, u16, u16)
-        requires { place < self.now.n + self.now.n * self.now.m + self.now.m }
-        ensures { result ≡ line_at (job_of self.now) place }
-    {
-        if place < self.n {
-            return self.standing_line(place);
-        }
-        let pair = place - self.n;
-        if pair < self.n * self.m {
-            self.pair_line_at(pair / self.m, pair % self.m)
-        } else {
-            self.count_line(pair - self.n * self.m)
-        }
-    }
+// The node behind the source and so many others: the parts come first, then the signs, then the sink.
+fn node(others: usize) -> u16
+    requires { others ≤ 128 }
+    ensures { result ≡ 1 + others }
+{
+    1 + others as u16
 }
 
 impl Network for OneSeries {
@@ -105,53 +87,22 @@ impl Network for OneSeries {
     ghost limits = { limits_of };
 
     fn nodes(&self) -> usize {
-        self.n + self.m + 2
+        self.parts.len() + self.signs.len() + 2
     }
 
+    #[tactic(auto, using(crate::specs::Counts::size_is))]
     fn lines(&self) -> usize {
-        self.line_count()
+        let (n, m) = (self.parts.len(), self.signs.len());
+        n + n * m + m
     }
 
+    #[tactic(auto, using(crate::proofs::Roles::role_line))]
     fn line(&self, place: usize) -> Option<(u16, u16, u16, u16)> {
-        if place < self.line_count() {
-            Some(self.line_at(place))
-        } else {
-            None
+        match self.role_at(place) {
+            Role::Standing(p) => Some(self.standing_line(p)),
+            Role::Pair(p, s) => Some(self.pair_line_at(p, s)),
+            Role::Count(s) => Some(self.count_line(s)),
+            Role::Other => None,
         }
-    }
-}
-
-// Whether the mask allows the sign.
-pub(crate) fn allowed(mask: u64, s: usize) -> bool
-    requires { s < 64 }
-    ensures { result ≡ allows mask s }
-{
-    (mask >> s) % 2 == 1
-}
-
-fn most_of_pair(mask: u64, s: usize) -> u16
-    requires { s < 64 }
-    ensures { result ≡ (if allows mask s then 1 else 0) }
-{
-    if allowed(mask, s) { 1 } else { 0 }
-}
-
-fn fewest_of(standing: Standing) -> u16
-    ensures { result ≡ fewest standing }
-{
-    match standing {
-        Standing::LeftOut => 0,
-        Standing::Optional => 0,
-        Standing::Required => 1,
-    }
-}
-
-fn most_of(standing: Standing) -> u16
-    ensures { result ≡ utmost standing }
-{
-    match standing {
-        Standing::LeftOut => 0,
-        Standing::Optional => 1,
-        Standing::Required => 1,
     }
 }

@@ -1,10 +1,11 @@
 // Loading a job into a one-series network.
-ghost use Rattle.std.specs.Prelude.{◌≡◌, ℕ, ◌+◌, ◌^◌, ◌<◌, ◌≤◌, map, length, take, MatchResult, nat_le};
-ghost use Rattle.series.specs.Load.{load_told, part_of, standing_of, Sized, SoundParts, SizeFault, PartFault, SignFault, Loading};
+ghost use Rattle.std.specs.Prelude.{◌≡◌, ◌^◌, ◌≤◌, map, length, take, MatchResult, nat_le};
+ghost use Rattle.series.specs.Load.{load_told, part_of, Sized, SoundParts, SizeFault, PartFault, SignFault, KeepsPart, KeepsSign, KeepsAll, Loading};
 ghost use Rattle.series.specs.Sound.{SoundSigns};
 
 use crate::one_series::OneSeries;
-use crate::records::{Part, PartRecord, SignRecord, Standing as PartStanding};
+use crate::records::{Part, PartRecord, SignRecord, Standing};
+use arrayvec::ArrayVec;
 
 // Why a job is not loaded; a part or a sign is told by its place.
 #[derive(Clone, Copy, PartialEq, Eq, Debug)]
@@ -66,82 +67,66 @@ fn exceeds(mask: u64, m: usize) -> bool
     m < 64 && mask >> m != 0
 }
 
-fn check_parts(n: usize, m: usize, parts: &[PartRecord]) -> Result<(), LoadRefusal>
-    requires { (n ≤ length parts.now) × (m ≤ 64) }
-    ensures { MatchResult result (λ _. SoundParts n m parts.now) (PartFault n m parts.now) }
+// The part that the record at a place describes among m signs.
+fn kept_part(place: usize, m: usize, given: PartRecord) -> Result<Part, LoadRefusal>
+    requires { m ≤ 64 }
+    ensures { KeepsPart m place given result }
 {
-    for p in 0..n {
-        let part = parts[p];
-        if part.standing > 2 {
-            return Err(LoadRefusal::Standing(p));
-        }
-        if exceeds(part.mask, m) {
-            return Err(LoadRefusal::Mask(p));
-        }
+    let standing = Standing::try_from(given.standing).map_err(|_| LoadRefusal::Standing(place))?;
+    if exceeds(given.mask, m) {
+        return Err(LoadRefusal::Mask(place));
     }
-    Ok(())
-}
-
-fn check_signs(m: usize, signs: &[SignRecord]) -> Result<(), LoadRefusal>
-    requires { m ≤ length signs.now }
-    ensures { MatchResult result (λ _. SoundSigns signs.now m) (SignFault m signs.now) }
-{
-    for s in 0..m {
-        let sign = signs[s];
-        if sign.least > sign.most || sign.most > 64 {
-            return Err(LoadRefusal::Sign(s));
-        }
-    }
-    Ok(())
-}
-
-// The standing that a record's byte names; a load has refused a byte above 2 before.
-fn standing_of(byte: u8) -> PartStanding
-    ensures { result ≡ standing_of byte }
-{
-    match byte {
-        0 => PartStanding::LeftOut,
-        1 => PartStanding::Optional,
-        _ => PartStanding::Required,
-    }
-}
-
-fn part_of(given: PartRecord) -> Part
-    ensures { result ≡ part_of given }
-{
-    Part {
+    Ok(Part {
         mask: given.mask,
-        standing: standing_of(given.standing),
-    }
+        standing,
+    })
 }
 
-fn kept_parts(n: usize, given: &[PartRecord]) -> [Part; 64]
-    requires { (n ≤ length given.now) × (n ≤ 64) }
-    ensures { take n result ≡ map part_of (take n given.now) }
+// The sign that the record at a place describes.
+fn kept_sign(place: usize, given: SignRecord) -> Result<SignRecord, LoadRefusal>
+    ensures { KeepsSign place given result }
 {
-    let mut slots = [Part {
-        mask: 0,
-        standing: PartStanding::LeftOut,
-    }; 64];
-    for p in 0..n {
-        slots[p] = part_of(given[p]);
+    if given.least > given.most || given.most > 64 {
+        return Err(LoadRefusal::Sign(place));
     }
-    slots
+    Ok(given)
 }
 
-fn kept_signs(m: usize, given: &[SignRecord]) -> [SignRecord; 64]
+// What `keep` makes of each record at its place, up to the first that it refuses.
+fn keep_each<R: Copy, T: Default + Drop, F: Fn(usize, R) -> Result<T, LoadRefusal>>(
+    records: &[R],
+    keep: F,
+) -> Result<ArrayVec<T, 64>, LoadRefusal>
+    requires room { length records.now ≤ 64 }
+    requires callable { F.IsAlwaysCallable keep }
+    ensures { KeepsAll (F.post keep) records.now result }
+{
+    let mut kept = ArrayVec::new();
+    for (place, record) in records.iter().enumerate() {
+        kept.push(keep(place, *record)?);
+    }
+    Ok(kept)
+}
+
+// The first n parts, among m signs.
+fn kept_parts(n: usize, m: usize, given: &[PartRecord]) -> Result<ArrayVec<Part, 64>, LoadRefusal>
+    requires { (n ≤ length given.now) × (n ≤ 64) × (m ≤ 64) }
+    ensures { MatchResult result (λ parts. SoundParts n m given.now × (parts.items ≡ map part_of (take n given.now))) (PartFault n m given.now) }
+{
+    keep_each(&given[..n], |place, part| kept_part(place, m, part))
+}
+
+// The first m signs.
+fn kept_signs(m: usize, given: &[SignRecord]) -> Result<ArrayVec<SignRecord, 64>, LoadRefusal>
     requires { (m ≤ length given.now) × (m ≤ 64) }
-    ensures { take m result ≡ take m given.now }
+    ensures { MatchResult result (λ signs. SoundSigns given.now m × (signs.items ≡ take m given.now)) (SignFault m given.now) }
 {
-    let mut slots = [SignRecord { least: 0, most: 0 }; 64];
-    for s in 0..m {
-        slots[s] = given[s];
-    }
-    slots
+    keep_each(&given[..m], kept_sign)
 }
 
 impl OneSeries {
-    // Replaces the job by that of the first n part records and the first m sign records; a refusal keeps the old one.
+    // Replaces the job by that of the first n part records and the first m sign records; a refusal keeps the old one. A number stands
+    // beside each slice, since a slice that is shorter than its number is refused.
     pub fn load(
         &mut self,
         n: usize,
@@ -152,11 +137,9 @@ impl OneSeries {
         ensures { Loading n m parts.now signs.now self.old self.new result }
     {
         check_size(n, m, parts, signs)?;
-        check_parts(n, m, parts)?;
-        check_signs(m, signs)?;
-        let parts = kept_parts(n, parts);
-        let signs = kept_signs(m, signs);
-        *self = OneSeries { parts, signs, n, m };
+        let parts = kept_parts(n, m, parts)?;
+        let signs = kept_signs(m, signs)?;
+        *self = OneSeries { parts, signs };
         Ok(())
     }
 }

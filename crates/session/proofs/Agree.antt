@@ -1,5 +1,5 @@
 -- Two sifts of networks of the same meaning, neither short of memory, agree.
-use Rattle.std.proofs.Common.{◌≡◌, ℕ, ◌<◌, List, get_or, take, Ok, Err, Result, sym, refl, ◌∙◌, subst, ⊎_elim, arith, get_or-take}
+use Rattle.std.proofs.Common.{◌≡◌, ℕ, ◌<◌, get_or, Ok, Err, Result, sym, refl, ◌∙◌, subst, ⊎_elim, arith, get_or-take}
 use Rattle.network.specs.Net.{Net, Same, size}
 use Rattle.network.specs.Flow.{Fixed, Free, at}
 use Rattle.flows.proofs.Same.{same_sym, lawful_same, fixed_same, verdict_agree}
@@ -10,10 +10,6 @@ use Rattle.verdicts.specs.Verdicts.{Verdict}
 use Rattle.sift.specs.declared.refusal.SiftRefusal.{SiftRefusal}
 use Rattle.sift.specs.declared.refusal.SiftRefusal.TheVariants.{Short, NoFlow}
 use Rattle.session.specs.Promise.{Agree}
-
--- the amount shown for a line is that of the flow shown
-shown_at : (n : ℕ) (f : List ℕ) (l : ℕ) → l < n → at (take n f) l ≡ at f l
-shown_at n f l h = get_or-take n f l 0 h
 
 module _ (g h : Net) (s : Same g h) (v w : Workspace) (a : Accepted g v) (b : Accepted h w) (l : ℕ) (inside : l < size g) where
   there : l < size h
@@ -28,11 +24,11 @@ module _ (g h : Net) (s : Same g h) (v w : Workspace) (a : Accepted g v) (b : Ac
 
   not_free_too : Fixed g l (at v.flow l) → Free h l (at w.flow l) → ⊥
   not_free_too fixed free =
-      verdict_agree s l (at v.flow l) _ b.lawful fixed (subst (Free h l) (sym (shown_at (size h) w.flow l there)) free)
+      verdict_agree s l (at v.flow l) _ b.lawful fixed (subst (Free h l) (sym (get_or-take (size h) w.flow l 0 there)) free)
 
   not_fixed_too : Free g l (at v.flow l) → Fixed h l (at w.flow l) → ⊥
   not_fixed_too free fixed =
-      verdict_agree (same_sym s) l (at w.flow l) _ a.lawful fixed (subst (Free g l) (sym (shown_at (size g) v.flow l inside)) free)
+      verdict_agree (same_sym s) l (at w.flow l) _ a.lawful fixed (subst (Free g l) (sym (get_or-take (size g) v.flow l 0 inside)) free)
 
   pub verdicts_agree : get_or v.verdicts l 0 ≡ get_or w.verdicts l 0
   verdicts_agree =
@@ -40,7 +36,7 @@ module _ (g h : Net) (s : Same g h) (v w : Workspace) (a : Accepted g v) (b : Ac
 
   pub amounts_agree : get_or v.verdicts l 0 ≡ 1 → at v.flow l ≡ at w.flow l
   amounts_agree e =
-      ⊎_elim (λ p. sym (fixed_same s l (at v.flow l) p.1 _ b.lawful) ∙ shown_at (size h) w.flow l there) (λ p. absurd (omega (arith, p.0))) first
+      ⊎_elim (λ p. sym (fixed_same s l (at v.flow l) p.1 _ b.lawful) ∙ get_or-take (size h) w.flow l 0 there) (λ p. absurd (omega (arith, p.0))) first
 
 -- over networks of the same meaning
 pub sifts_agree : (g h : Net) → Same g h → (v₀ v w₀ w : Workspace) (r q : Result (Unit {0}) SiftRefusal)

@@ -1,7 +1,6 @@
 -- The loop that makes the calls: what it keeps from turn to turn.
-use Rattle.std.proofs.Common.{◌≡◌, ℕ, ◌+◌, ◌<◌, ◌≤◌, ◌≢◌, List, [], ◌∷◌, ◌++◌, length, get_or, take, set, sym, refl, ap, ◌∙◌, subst, ⊎_elim, arith, length-set, get_or-set_other, get_or-set_same}
+use Rattle.std.proofs.Common.{◌≡◌, ℕ, ◌+◌, ◌<◌, ◌≤◌, ◌≢◌, List, [], ◌∷◌, ◌++◌, length, get_or, take, set, sym, refl, ap, ◌∙◌, subst, arith, length-set, get_or-set_other, get_or-set_same, below_more}
 use Rattle.std.proofs.lemmas.List.{take_more}
-use Rattle.std.proofs.lemmas.Bool.{cases_eq}
 use Rattle.network.specs.Net.{Net}
 use Rattle.layers.specs.Present.{Standing}
 use Rattle.layers.specs.declared.entry.Entry.{Entry}
@@ -30,14 +29,14 @@ module _ (g : Net) (before after : List Turn) (es : List Entry) (i : ℕ) (so_fa
   pub next_call : get_or after i no_turn ≡ get_or before i no_turn
   next_call = so_far.waits i (omega arith)
 
-  pub goes_on : (blank t : Turn) (es' : List Entry) → Standing g es' → es' ≡ after_call g es (get_or before i no_turn).call → Answered g es (get_or before i no_turn).call t
-      → Going g before (set (set after i blank) i t) es' (i + 1)
-  goes_on blank t es' stands log answered =
-      let there : i < length (set after i blank) = simp length-set (omega (arith, so_far.long)) in
+  pub goes_on : (t : Turn) (es' : List Entry) → Standing g es' → es' ≡ after_call g es (get_or before i no_turn).call → Answered g es (get_or before i no_turn).call t
+      → Going g before (set after i t) es' (i + 1)
+  goes_on t es' stands log answered =
+      let there : i < length after = omega (arith, so_far.long) in
       record {
         long = simp length-set so_far.long;
         stands = stands;
         log = log ∙ ap (λ xs. after_call g xs (get_or before i no_turn).call) so_far.log ∙ sym (standing_next g before i inside);
-        made = λ k l. ⊎_elim (λ (e : k ≡ i). subst (λ j. Answered g (standing g before j) (get_or before j no_turn).call (get_or (set (set after i blank) i t) j no_turn)) (sym e) (subst (λ x. Answered g (standing g before i) (get_or before i no_turn).call x) (sym (get_or-set_same (set after i blank) i t no_turn there)) (subst (λ xs. Answered g xs (get_or before i no_turn).call t) so_far.log answered))) (λ (ne : k ≢ i). subst (λ x. Answered g (standing g before k) (get_or before k no_turn).call x) (sym (get_or-set_other (set after i blank) i k t no_turn ne ∙ get_or-set_other after i k blank no_turn ne)) (so_far.made k (omega arith))) (cases_eq k i);
-        waits = λ k l. let ne : k ≢ i = λ e. omega arith in get_or-set_other (set after i blank) i k t no_turn ne ∙ get_or-set_other after i k blank no_turn ne ∙ so_far.waits k (omega arith);
+        made = below_more _ _ (λ k l. let ne : k ≢ i = omega arith in subst (λ x. Answered g (standing g before k) (get_or before k no_turn).call x) (sym (get_or-set_other after i k t no_turn ne)) (so_far.made k l)) (subst (λ x. Answered g (standing g before i) (get_or before i no_turn).call x) (sym (get_or-set_same after i t no_turn there)) (subst (λ xs. Answered g xs (get_or before i no_turn).call t) so_far.log answered));
+        waits = λ k l. let ne : k ≢ i = λ e. omega arith in get_or-set_other after i k t no_turn ne ∙ so_far.waits k (omega arith);
       }

@@ -1,6 +1,7 @@
 -- One call on the layer is one call of the reference log.
-use Rattle.std.proofs.Common.{◌≡◌, ℕ, ◌+◌, ◌-◌, true, false, List, [], ◌∷◌, length, get_or, take, Some, Ok, Err, Result, sym, refl, ap, ◌∙◌, subst, ⊎_elim, arith}
-use Rattle.std.proofs.lemmas.List.{length_push, take_all, take_at, get_or_push}
+use Rattle.std.proofs.Common.{◌≡◌, ◌+◌, ◌-◌, true, false, List, [], ◌∷◌, length, get_or, take, Some, Ok, Err, Result, sym, refl, ap, ◌∙◌, subst, ⊎_elim, arith}
+use Rattle.std.proofs.Math.Seq.{take-nil}
+use Rattle.std.proofs.lemmas.List.{length_push, take_at, get_or_push}
 use Rattle.std.proofs.lemmas.Bool.{lt-ltb, le-ltb, le-leb, leb-true, and_from, and_parts, cases_Bool, cond-true, cond-false}
 use Rattle.network.specs.Net.{Net, size}
 use Rattle.layers.specs.Entries.{Inside, Accepted, LayRefused, Lays, Undoes}
@@ -50,9 +51,6 @@ module _ (g : Net) (es : List Entry) (e : Entry) where
   pub lay_stands : (after : List Entry) (r : Result (Unit {0}) LayRefusal) → Lays (size g) (present g es) e es after r → after ≡ joined es e (lay_answer g es e)
   lay_stands after r h = lay_joins after r h ∙ ap (joined es e) (lay_answer_is after r h)
 
-take_none : (n : ℕ) → take {A = Entry} n [] ≡ []
-take_none n = take_all n [] (omega arith)
-
 pub undo_answer_is : (es after : List Entry) (r : Result Entry UndoRefusal) → Undoes es after r → r ≡ undo_answer es
 undo_answer_is es after (Ok e) h =
     let long : length es ≡ length after + 1 = ap length h ∙ length_push after e in
@@ -65,7 +63,7 @@ pub undo_stands : (es after : List Entry) (r : Result Entry UndoRefusal) → Und
 undo_stands es after (Ok e) h =
     let long : length es ≡ length after + 1 = ap length h ∙ length_push after e in
     sym (ap (take (length es - 1)) h ∙ take_at after (e ∷ []) (length es - 1) (omega arith))
-undo_stands es after (Err NoEntry) h = h.1 ∙ h.0 ∙ sym (ap (λ xs. take (length es - 1) xs) h.0 ∙ take_none (length es - 1))
+undo_stands es after (Err NoEntry) h = h.1 ∙ h.0 ∙ sym (ap (λ xs. take (length es - 1) xs) h.0 ∙ take-nil (length es - 1))
 
 -- A call that was made: what stands now, and its answer, are those of the reference log.
 pub record Logged (g : Net) (es : List Entry) (call : Call) (after : List Entry) (t : Turn) : Type 0 where
@@ -81,9 +79,9 @@ laid g es after call e r is h =
     })
 
 pub undone : (g : Net) (es after : List Entry) (call : Call) (r : Result Entry UndoRefusal) → call ≡ Undo
-    → Undoes es after r → Logged g es call after (record { call = Undo; answer = Some (Undone r) })
+    → Undoes es after r → Logged g es call after (record { call = call; answer = Some (Undone r) })
 undone g es after call r is h =
-    subst (λ x. Logged g es x after (record { call = Undo; answer = Some (Undone r) })) (sym is) (record {
+    subst (λ x. Logged g es x after (record { call = x; answer = Some (Undone r) })) (sym is) (record {
       column = undo_stands es after r h;
       answered = ap (λ x. record { call = Undo; answer = Some (Undone x) }) (undo_answer_is es after r h);
     })

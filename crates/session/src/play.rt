@@ -10,73 +10,37 @@ use crate::turn::{Answer, Buffers, Call, Turn};
 use layers::entries::Entries;
 use network::Network;
 use sift::refusal::SiftRefusal;
-use sift::sift::sift;
+use sift::sift::sift_slices;
 
 // A sift in buffers of its own.
-fn sift_in<N: Network>(network: &N, buffers: Buffers) -> (Buffers, Result<(), SiftRefusal>)
-    ensures { Sifted (N.Network.meaning network.now) (held buffers) (held result.0) result.1 }
+fn sift_in<N: Network>(network: &N, buffers: &mut Buffers) -> Result<(), SiftRefusal>
+    ensures { Sifted (N.Network.meaning network.now) (held buffers.old) (held buffers.new) result }
 {
-    let Buffers {
-        mut flow,
-        mut verdicts,
-        mut bottleneck,
-        mut marks,
-        mut nodes,
-        mut steps,
-    } = buffers;
-    let answer = sift(
+    sift_slices(
         network,
-        &mut flow,
-        &mut verdicts,
-        &mut bottleneck,
-        &mut marks,
-        &mut nodes,
-        &mut steps,
-    );
-    (
-        Buffers {
-            flow,
-            verdicts,
-            bottleneck,
-            marks,
-            nodes,
-            steps,
-        },
-        answer,
+        &mut buffers.flow,
+        &mut buffers.verdicts,
+        &mut buffers.bottleneck,
+        &mut buffers.marks,
+        &mut buffers.nodes,
+        &mut buffers.steps,
     )
 }
 
 // Makes one call, and puts its answer beside it.
-fn make<N: Network>(layer: &mut Entries<N>, call: Call) -> Turn
+fn make<N: Network>(layer: &mut Entries<N>, turn: &mut Turn)
     requires { Standing (N.Network.meaning layer.old.below) (entries_of layer.old.column) }
     ensures below { layer.new.below ≡ layer.old.below }
     ensures stands { Standing (N.Network.meaning layer.old.below) (entries_of layer.new.column) }
-    ensures column { entries_of layer.new.column ≡ after_call (N.Network.meaning layer.old.below) (entries_of layer.old.column) call }
-    ensures answered { Answered (N.Network.meaning layer.old.below) (entries_of layer.old.column) call result }
+    ensures column { entries_of layer.new.column ≡ after_call (N.Network.meaning layer.old.below) (entries_of layer.old.column) turn.old.call }
+    ensures answered { Answered (N.Network.meaning layer.old.below) (entries_of layer.old.column) turn.old.call turn.new }
 {
-    match call {
-        Call::Lay(entry) => {
-            let answer = layer.lay(entry);
-            Turn {
-                call: Call::Lay(entry),
-                answer: Some(Answer::Laid(answer)),
-            }
-        }
-        Call::Undo => {
-            let answer = layer.undo();
-            Turn {
-                call: Call::Undo,
-                answer: Some(Answer::Undone(answer)),
-            }
-        }
-        Call::Sift(buffers) => {
-            let (buffers, answer) = sift_in(layer, buffers);
-            Turn {
-                call: Call::Sift(buffers),
-                answer: Some(Answer::Sifted(answer)),
-            }
-        }
-    }
+    let answer = match &mut turn.call {
+        Call::Lay(entry) => Answer::Laid(layer.lay(*entry)),
+        Call::Undo => Answer::Undone(layer.undo()),
+        Call::Sift(buffers) => Answer::Sifted(sift_in(layer, buffers)),
+    };
+    turn.answer = Some(answer);
 }
 
 // Makes the calls in order on a fresh layer, and hands the network back.
@@ -85,16 +49,8 @@ pub(crate) fn play<N: Network>(network: N, turns: &mut [Turn]) -> N
     ensures played { Played (N.Network.meaning network) turns.old turns.new }
 {
     let mut layer = Entries::new(network);
-    for k in 0..turns.len() {
-        let turn = std::mem::replace(
-            &mut turns[k],
-            Turn {
-                call: Call::Undo,
-                answer: None,
-            },
-        );
-        let Turn { call, answer: _ } = turn;
-        turns[k] = make(&mut layer, call);
+    for turn in turns.iter_mut() {
+        make(&mut layer, turn);
     }
     layer.into_inner()
 }

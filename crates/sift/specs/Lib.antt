@@ -1,2 +1,3 @@
 pub mod Workspace
 pub mod Sifted
+pub mod Memory

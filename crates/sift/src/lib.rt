@@ -1,7 +1,7 @@
 // The sift: a lawful flow of any network with a verdict for each line, or a bottleneck that proves that there is none.
 #![tactic(auto)]
 
-mod blank;
+pub mod memory;
 pub mod refusal;
 pub mod sift;
 mod work;

@@ -1,6 +1,9 @@
 // Why a sift is refused.
 ghost use Rattle.std.specs.Prelude.{◌≡◌};
 ghost use Rattle.sift.specs.Sifted.{sift_told};
+ghost use Rattle.sift.specs.declared.refusal.SiftRefusal.TheVariants.{NoFlow};
+
+use circulation::bottleneck::Bottleneck;
 
 #[derive(Clone, Copy, PartialEq, Eq, Debug)]
 pub enum SiftRefusal {
@@ -8,6 +11,14 @@ pub enum SiftRefusal {
     Short,
     // no lawful flow exists; demand and supply are those of the bottleneck shown
     NoFlow(u32, u32),
+}
+
+impl From<Bottleneck> for SiftRefusal {
+    ghost from_gives = { λ b r. r ≡ NoFlow b.demand b.supply };
+
+    fn from(b: Bottleneck) -> SiftRefusal {
+        SiftRefusal::NoFlow(b.demand, b.supply)
+    }
 }
 
 impl SiftRefusal {

@@ -4,41 +4,32 @@
 use index::step::Step;
 use listed::lent::Listed;
 use network::line_record::LineRecord;
+use sift::memory::Memory;
 use sift::refusal::SiftRefusal;
 use sift::sift::sift;
 use std::io;
+use verdicts::verdict::Verdict;
 
-const NO_STEP: Step = Step {
-    line: 0,
-    direction: 0,
-};
-
-fn line(tail: u16, head: u16, least: u16, most: u16) -> LineRecord {
-    LineRecord {
-        tail,
-        head,
-        least,
-        most,
-    }
-}
-
-fn print_lines(
-    rt: &impl Print,
-    lines: &[LineRecord],
-    flow: &[u32],
-    verdicts: &[u8],
-) -> io::Result<()> {
-    for ((record, amount), verdict) in lines.iter().zip(flow).zip(verdicts) {
-        let tail = record.tail;
-        let head = record.head;
-        let least = record.least;
-        let most = record.most;
-        let word = if *verdict == 1 { "fixed" } else { "free" };
-        print!(rt; "; line {tail} to {head} at {least}..{most} carries {amount}, {word}")?;
+fn print_lines(rt: &impl Print, lines: &[LineRecord], memory: &Memory<'_>) -> io::Result<()> {
+    let shown = memory.flow.iter().zip(memory.verdicts.iter());
+    for (record, (amount, verdict)) in lines.iter().zip(shown) {
+        print!(rt;
+            "; line {} to {} at {}..{} carries {amount}, {}",
+            record.tail,
+            record.head,
+            record.least,
+            record.most,
+            if *verdict == u8::from(Verdict::Fixed) {
+                "fixed"
+            } else {
+                "free"
+            }
+        )?;
     }
     println!(rt; "")
 }
 
+// The nodes whose byte in the lent memory is 1, and the sums of the bottleneck.
 fn print_bottleneck(rt: &impl Print, bytes: &[u8], demand: u32, supply: u32) -> io::Result<()> {
     print!(rt; "no lawful flow; bottleneck")?;
     for (node, byte) in bytes.iter().enumerate() {
@@ -54,34 +45,27 @@ fn show(rt: &impl Print, name: &str, nodes: usize, lines: &[LineRecord]) -> io::
     let mut network = Listed::new();
     print!(rt; "load {name}: ")?;
     if let Err(refusal) = network.load(nodes, lines.len(), lines) {
-        let number = refusal.number();
-        return println!(rt; "refused, {number}");
+        return println!(rt; "refused, {}", refusal.number());
     }
     println!(rt; "loaded")?;
-    let mut flow = [0u32; 8];
-    let mut verdicts = [0u8; 8];
-    let mut bottleneck = [0u8; 8];
-    let mut marks = [0u8; 8];
-    let mut queue = [0u16; 8];
-    let mut walk = [NO_STEP; 8];
+    let mut memory = Memory {
+        flow: &mut [0; 8],
+        verdicts: &mut [0; 8],
+        bottleneck: &mut [0; 8],
+        marks: &mut [0; 8],
+        nodes: &mut [0; 8],
+        steps: &mut [Step::default(); 8],
+    };
     print!(rt; "sift {name}: ")?;
-    match sift(
-        &network,
-        &mut flow,
-        &mut verdicts,
-        &mut bottleneck,
-        &mut marks,
-        &mut queue,
-        &mut walk,
-    ) {
+    match sift(&network, &mut memory) {
         Ok(()) => {
             print!(rt; "lawful flow found")?;
-            print_lines(rt, lines, &flow, &verdicts)
+            print_lines(rt, lines, &memory)
         }
         Err(SiftRefusal::Short) => println!(rt; "refused, 1: a buffer is short"),
         Err(SiftRefusal::NoFlow(demand, supply)) => print_bottleneck(
             rt,
-            &bottleneck,
+            memory.bottleneck,
             demand,
             supply,
         ),
@@ -93,20 +77,33 @@ fn main(rt: HostRuntime) -> io::Result<()> {
         &rt,
         "a ring",
         3,
-        &[line(0, 1, 1, 1), line(1, 2, 0, 2), line(2, 0, 1, 1)],
+        &[
+            LineRecord::new(0, 1, 1, 1),
+            LineRecord::new(1, 2, 0, 2),
+            LineRecord::new(2, 0, 1, 1),
+        ],
     )?;
-    show(&rt, "a line from a node to itself", 1, &[line(0, 0, 0, 3)])?;
+    show(
+        &rt,
+        "a line from a node to itself",
+        1,
+        &[LineRecord::new(0, 0, 0, 3)],
+    )?;
     show(
         &rt,
         "a tight line from a node to itself",
         1,
-        &[line(0, 0, 3, 3)],
+        &[LineRecord::new(0, 0, 3, 3)],
     )?;
     show(&rt, "the empty network", 0, &[])?;
     show(
         &rt,
         "a ring that is too tight",
         3,
-        &[line(0, 1, 2, 3), line(1, 2, 0, 1), line(2, 0, 0, 3)],
+        &[
+            LineRecord::new(0, 1, 2, 3),
+            LineRecord::new(1, 2, 0, 1),
+            LineRecord::new(2, 0, 0, 3),
+        ],
     )
 }

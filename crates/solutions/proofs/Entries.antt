@@ -1,15 +1,16 @@
 -- Lawful under entries, for any network: lawful, and each entry's line carries what the entry asks.
-use Rattle.std.proofs.Common.{◌≡◌, ℕ, zero, suc, ◌<◌, ◌≤◌, Bool, true, cond, ◌&&◌, eqb, List, [], ◌∷◌, length, get_or, sym, refl, ap, ◌∙◌, subst, arith}
-use Rattle.std.proofs.lemmas.Bool.{cond_both, and_parts, eqb-true, eq-eqb, cond-true, false≢true}
-use Rattle.network.specs.Net.{Net, size, line, least, most, tail, head}
+use Rattle.std.proofs.Common.{◌≡◌, ℕ, zero, suc, ◌<◌, Bool, cond, eqb, List, [], ◌∷◌, length, get_or, sym, refl, ap, ◌∙◌, subst, arith}
+use Rattle.std.proofs.lemmas.Bool.Decides.{nat_tests}
+use Rattle.network.specs.Net.{Net, size, line, tail, head}
 use Rattle.network.specs.Flow.{at, over, Lawful}
 use Rattle.network.specs.Sum.{upto}
 use Rattle.flows.proofs.Sums.{upto_same}
-use Rattle.layers.specs.Entries.{bounded}
+use Rattle.layers.specs.Entries.{Inside, bounds_of, bounded}
 use Rattle.layers.specs.Named.{no_entry}
-use Rattle.layers.specs.Present.{highest, lowest, same_bound, amounts, present, present_net}
+use Rattle.layers.specs.Present.{present_of, present, present_net}
 use Rattle.layers.specs.declared.entry.Bound.{Bound}
 use Rattle.layers.specs.declared.entry.Bound.TheVariants.{AtLeast, AtMost}
+use Rattle.layers.specs.declared.entry.Bounds as entry
 use Rattle.layers.specs.declared.entry.Entry.{Entry}
 use Rattle.layers.specs.Under.{size_bounded, line_bounded}
 use Rattle.solutions.specs.Obeyed.{Bounds}
@@ -19,60 +20,30 @@ abbrev pub AskedOf : List Entry → ℕ → ℕ → Type 0
 AskedOf es k x =
     (i : ℕ) → i < length es → (get_or es i no_entry).line ≡ k → Bounds (get_or es i no_entry).bound (get_or es i no_entry).amount x
 
-asked_rest : (e : Entry) (es : List Entry) (k x : ℕ) → AskedOf (e ∷ es) k x → AskedOf es k x
-asked_rest e es k x h i l = h (suc i) (omega arith)
+-- an amount within the present bounds is one within the bounds below that every entry on the line allows
+module _ (k x : ℕ) where
+  first : (b : entry.Bounds) (e : Entry) (es : List Entry) → present_of b (e ∷ es) k ≡ present_of (present_of b (e ∷ []) k) es k
+  first b e es = grind (arith, nat_tests)
 
-least_asked : (kind : Bound) (a x : ℕ) → same_bound AtLeast kind ≡ true → Bounds kind a x → a ≤ x
-least_asked AtLeast a x same h = h
-least_asked AtMost a x same h = absurd (false≢true same)
+  one_asks : (b : entry.Bounds) (n : ℕ) (kind : Bound) (a : ℕ) → Inside (present_of b (record { line = n; bound = kind; amount = a } ∷ []) k) x → Inside b x × (n ≡ k → Bounds kind a x)
+  one_asks b n AtLeast a h = (record { low = grind (arith, nat_tests, h.low); high = h.high }, λ e. grind (arith, nat_tests, h.low))
+  one_asks b n AtMost a h = (record { low = h.low; high = grind (arith, nat_tests, h.high) }, λ e. grind (arith, nat_tests, h.high))
 
-most_asked : (kind : Bound) (a x : ℕ) → same_bound AtMost kind ≡ true → Bounds kind a x → x ≤ a
-most_asked AtLeast a x same h = absurd (false≢true same)
-most_asked AtMost a x same h = h
+  one_allows : (b : entry.Bounds) (n : ℕ) (kind : Bound) (a : ℕ) → Inside b x → (n ≡ k → Bounds kind a x) → Inside (present_of b (record { line = n; bound = kind; amount = a } ∷ []) k) x
+  one_allows b n AtLeast a h asks = record { low = grind (arith, nat_tests, h.low, asks); high = h.high }
+  one_allows b n AtMost a h asks = record { low = h.low; high = grind (arith, nat_tests, h.high, asks) }
 
--- what all entries on a line ask is what its present bounds ask
-pub above_highest : (l k x : ℕ) (es : List Entry) → l ≤ x → AskedOf es k x → highest l (amounts AtLeast k es) ≤ x
-above_highest l k x [] low h = low
-above_highest l k x (e ∷ es) low h =
-    let rest = above_highest l k x es low (asked_rest e es k x h) in
-    cond_both (same_bound AtLeast e.bound && eqb e.line k) (e.amount ∷ amounts AtLeast k es) (amounts AtLeast k es) (λ xs. highest l xs ≤ x) (λ t. let both = and_parts _ _ t in omega (arith, rest, least_asked e.bound e.amount x both.0 (h zero (omega arith) (eqb-true _ _ both.1)))) (λ _. rest)
+  pub asked_inside : (b : entry.Bounds) (es : List Entry) → Inside (present_of b es k) x → Inside b x × AskedOf es k x
+  asked_inside b [] h = (h, λ i l. absurd (omega arith))
+  asked_inside b (e ∷ es) h =
+      let rest = asked_inside (present_of b (e ∷ []) k) es (rw (first b e es) at h) in
+      let one = one_asks b e.line e.bound e.amount rest.0 in
+      (one.0, elim [ zero ↦ λ l. one.1 | suc i ↦ λ l. rest.1 i (omega arith) ])
 
-pub below_lowest : (m k x : ℕ) (es : List Entry) → x ≤ m → AskedOf es k x → x ≤ lowest m (amounts AtMost k es)
-below_lowest m k x [] high h = high
-below_lowest m k x (e ∷ es) high h =
-    let rest = below_lowest m k x es high (asked_rest e es k x h) in
-    cond_both (same_bound AtMost e.bound && eqb e.line k) (e.amount ∷ amounts AtMost k es) (amounts AtMost k es) (λ xs. x ≤ lowest m xs) (λ t. let both = and_parts _ _ t in omega (arith, rest, most_asked e.bound e.amount x both.0 (h zero (omega arith) (eqb-true _ _ both.1)))) (λ _. rest)
-
--- the amounts after one entry, where it is of the kind and on the line, and where it may be
-longer_highest : (l k : ℕ) (e : Entry) (es : List Entry) → highest l (amounts AtLeast k es) ≤ highest l (amounts AtLeast k (e ∷ es))
-longer_highest l k e es =
-    cond_both (same_bound AtLeast e.bound && eqb e.line k) (e.amount ∷ amounts AtLeast k es) (amounts AtLeast k es) (λ xs. highest l (amounts AtLeast k es) ≤ highest l xs) (λ _. omega arith) (λ _. omega arith)
-
-longer_lowest : (m k : ℕ) (e : Entry) (es : List Entry) → lowest m (amounts AtMost k (e ∷ es)) ≤ lowest m (amounts AtMost k es)
-longer_lowest m k e es =
-    cond_both (same_bound AtMost e.bound && eqb e.line k) (e.amount ∷ amounts AtMost k es) (amounts AtMost k es) (λ xs. lowest m xs ≤ lowest m (amounts AtMost k es)) (λ _. omega arith) (λ _. omega arith)
-
-first_asked : (n : ℕ) (kind : Bound) (a l m k x : ℕ) (es : List Entry) → n ≡ k → highest l (amounts AtLeast k (record { line = n; bound = kind; amount = a } ∷ es)) ≤ x → x ≤ lowest m (amounts AtMost k (record { line = n; bound = kind; amount = a } ∷ es)) → Bounds kind a x
-first_asked n AtLeast a l m k x es e low high =
-    omega (arith, ap (highest l) (cond-true (eqb n k) (a ∷ amounts AtLeast k es) (amounts AtLeast k es) (eq-eqb n k e)))
-first_asked n AtMost a l m k x es e low high =
-    omega (arith, ap (lowest m) (cond-true (eqb n k) (a ∷ amounts AtMost k es) (amounts AtMost k es) (eq-eqb n k e)))
-
-pub asked_by_bounds : (l m k x : ℕ) (es : List Entry) → highest l (amounts AtLeast k es) ≤ x → x ≤ lowest m (amounts AtMost k es) → AskedOf es k x
-asked_by_bounds l m k x [] low high i h on = absurd (omega arith)
-asked_by_bounds l m k x (e ∷ es) low high zero h on =
-    first_asked e.line e.bound e.amount l m k x es on low high
-asked_by_bounds l m k x (e ∷ es) low high (suc i) h on =
-    asked_by_bounds l m k x es (omega (arith, low, longer_highest l k e es)) (omega (arith, high, longer_lowest m k e es)) i (omega arith) on
-
--- the least below is below the highest, and the most above the lowest
-highest_from : (l : ℕ) (xs : List ℕ) → l ≤ highest l xs
-highest_from l [] = omega arith
-highest_from l (x ∷ xs) = omega (arith, highest_from l xs)
-
-lowest_to : (m : ℕ) (xs : List ℕ) → lowest m xs ≤ m
-lowest_to m [] = omega arith
-lowest_to m (x ∷ xs) = omega (arith, lowest_to m xs)
+  pub inside_asked : (b : entry.Bounds) (es : List Entry) → Inside b x → AskedOf es k x → Inside (present_of b es k) x
+  inside_asked b [] h asked = h
+  inside_asked b (e ∷ es) h asked =
+      rw (first b e es) (inside_asked (present_of b (e ∷ []) k) es (one_allows b e.line e.bound e.amount h (asked 0 (omega arith))) (λ i l. asked (suc i) (omega arith)))
 
 module _ (g : Net) (es : List Entry) where
   size_present : size (present_net g es) ≡ size g
@@ -89,26 +60,29 @@ module _ (g : Net) (es : List Entry) where
 
   -- a flow that is lawful under entries is lawful, and each entry's line carries what the entry asks
   module _ (f : List ℕ) where
-    pub lawful_below : Lawful (present_net g es) f → Lawful g f
-    lawful_below law = record {
-      long = law.long ∙ size_present;
-      low = λ k h. omega (arith, law.low k (omega (arith, size_present)), ap least (line_present k h), highest_from (least (line g k)) (amounts AtLeast k es));
-      high = λ k h. omega (arith, law.high k (omega (arith, size_present)), ap most (line_present k h), lowest_to (most (line g k)) (amounts AtMost k es));
-      kept = λ v h. sym (sums_same (λ _ head. eqb head v) (at f)) ∙ law.kept v h ∙ sums_same (λ tail _. eqb tail v) (at f);
-    }
+    module _ (law : Lawful (present_net g es) f) where
+      within : (k : ℕ) → k < size g → Inside (bounds_of (line g k)) (at f k) × AskedOf es k (at f k)
+      within k h =
+          let there : k < size (present_net g es) = omega (arith, size_present) in
+          asked_inside k (at f k) (bounds_of (line g k)) es (record { low = rw (line_present k h) at (law.low k there); high = rw (line_present k h) at (law.high k there) })
 
-    pub entries_asked : Lawful (present_net g es) f → (i : ℕ) → i < length es → (get_or es i no_entry).line < size g → Bounds (get_or es i no_entry).bound (get_or es i no_entry).amount (at f (get_or es i no_entry).line)
-    entries_asked law i h inside =
-        let k = (get_or es i no_entry).line in
-        let there : (get_or es i no_entry).line < size (present_net g es) = omega (arith, size_present) in
-        asked_by_bounds (least (line g k)) (most (line g k)) k (at f k) es (omega (arith, law.low k there, ap least (line_present k inside))) (omega (arith, law.high k there, ap most (line_present k inside))) i h refl
+      pub lawful_below : Lawful g f
+      lawful_below = record {
+        long = law.long ∙ size_present;
+        low = λ k h. (within k h).0.low;
+        high = λ k h. (within k h).0.high;
+        kept = λ v h. sym (sums_same (λ _ head. eqb head v) (at f)) ∙ law.kept v h ∙ sums_same (λ tail _. eqb tail v) (at f);
+      }
+
+      pub entries_asked : (i : ℕ) → i < length es → (get_or es i no_entry).line < size g → Bounds (get_or es i no_entry).bound (get_or es i no_entry).amount (at f (get_or es i no_entry).line)
+      entries_asked i h inside = (within (get_or es i no_entry).line inside).1 i h refl
 
     pub lawful_above : Lawful g f → ((i : ℕ) → i < length es → Bounds (get_or es i no_entry).bound (get_or es i no_entry).amount (at f (get_or es i no_entry).line)) → Lawful (present_net g es) f
     lawful_above law asked =
-        let on : (k : ℕ) → AskedOf es k (at f k) = λ k i h e. subst (λ n. Bounds (get_or es i no_entry).bound (get_or es i no_entry).amount (at f n)) e (asked i h) in
+        let inside : (k : ℕ) → k < size g → Inside (present g es k) (at f k) = λ k l. inside_asked k (at f k) (bounds_of (line g k)) es (record { low = law.low k l; high = law.high k l }) (λ i h e. subst (λ n. Bounds (get_or es i no_entry).bound (get_or es i no_entry).amount (at f n)) e (asked i h)) in
         record {
           long = law.long ∙ sym size_present;
-          low = λ k h. let inside : k < size g = omega (arith, size_present) in omega (arith, ap least (line_present k inside), above_highest (least (line g k)) k (at f k) es (law.low k inside) (on k));
-          high = λ k h. let inside : k < size g = omega (arith, size_present) in omega (arith, ap most (line_present k inside), below_lowest (most (line g k)) k (at f k) es (law.high k inside) (on k));
+          low = λ k h. let l : k < size g = omega (arith, size_present) in rw (line_present k l) (inside k l).low;
+          high = λ k h. let l : k < size g = omega (arith, size_present) in rw (line_present k l) (inside k l).high;
           kept = λ v h. sums_same (λ _ head. eqb head v) (at f) ∙ law.kept v h ∙ sym (sums_same (λ tail _. eqb tail v) (at f));
         }

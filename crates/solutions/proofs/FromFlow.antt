@@ -1,8 +1,8 @@
 -- The numbering of a lawful flow is lawful, and its flow is that flow again; the numbering of a numbering's flow is that numbering.
-use Rattle.std.proofs.Common.{◌≡◌, ℕ, ◌+◌, ◌<◌, ◌≤◌, Bool, true, not, ◌&&◌, eqb, ltb, List, length, Some, None, sym, refl, ap, ◌∙◌, subst, arith}
+use Rattle.std.proofs.Common.{◌≡◌, ℕ, ◌+◌, ◌<◌, ◌≤◌, Bool, true, not, eqb, ltb, List, length, sym, ap, ◌∙◌, subst, arith}
 use Rattle.std.proofs.lemmas.List.FromFn.{length-map-range_with_len, get_or-map-range_with_len}
 use Rattle.std.proofs.lemmas.List.{ext_get_or}
-use Rattle.std.proofs.lemmas.Bool.{eq-eqb, eqb-true, lt-ltb, not-false, cond-true, and_from}
+use Rattle.std.proofs.lemmas.Bool.Decides.{nat_tests}
 use Rattle.network.specs.Net.{Net, Line, size, line}
 use Rattle.network.specs.Flow.{at, Lawful}
 use Rattle.network.specs.Sum.{upto, count_upto}
@@ -19,16 +19,14 @@ use Rattle.solutions.proofs.Regions.{each_place, pair_inside}
 use Rattle.solutions.proofs.Lines.{size_whole, line_part, line_pair, line_sign, line_last}
 use Rattle.solutions.proofs.Balance.{Balanced, balanced}
 use Rattle.solutions.proofs.Choice.{Chosen, lowest_chosen, byte_sum, same_byte}
-use Rattle.solutions.proofs.Tests.{one, one_le, one_true, one_false}
+use Rattle.solutions.proofs.Tests.{one, one_le}
 use Rattle.solutions.proofs.ToFlow.{Holds, carries_part, carries_pair, carries_sign, carries_last}
 
 -- what bounds on the amount that enters a part say of its byte
 standing_kept : (s : standing.Standing) (b x : ℕ) → one (not (eqb b unsigned)) ≡ x → fewest s ≤ x → x ≤ utmost s → StandingKept s b
-standing_kept LeftOut b x e low high =
-    eqb-true b unsigned (not-false (eqb b unsigned) (one_false (not (eqb b unsigned)) (omega arith)))
+standing_kept LeftOut b x e low high = grind (arith, nat_tests)
 standing_kept Optional b x e low high = tt
-standing_kept Required b x e low high =
-    λ is. let none = ap (λ t. one (not t)) (eq-eqb b unsigned is) in omega (arith, none)
+standing_kept Required b x e low high = λ is. grind (arith, nat_tests)
 
 utmost_one : (s : standing.Standing) → utmost s ≤ 1
 utmost_one LeftOut = omega arith
@@ -44,13 +42,12 @@ module _ (job : Job) (held : Held job) (f : List ℕ) where
 
   -- a pair of the job has its line
   pair_over : (p s : ℕ) → p < part_count job → s < sign_count job → over_line f ((key_of job).pair_line p s) ≡ at f (pair_place job p s)
-  pair_over p s h k =
-      ap (over_line f) (cond-true (ltb p (part_count job) && ltb s (sign_count job)) (Some (pair_place job p s)) None (and_from _ _ (lt-ltb p (part_count job) h) (lt-ltb s (sign_count job) k)))
+  pair_over p s h k = grind (arith, nat_tests)
 
   -- the byte of a part says what its pairs carry, where they carry 1 in all at most
   pub byte_chosen : (p : ℕ) → p < part_count job → upto (sign_count job) (λ s. at f (pair_place job p s)) ≤ 1 → Chosen (sign_count job) (λ s. at f (pair_place job p s)) (byte_at (numbering_of (key_of job) f) p)
   byte_chosen p h small =
-      subst (Chosen (sign_count job) (λ s. at f (pair_place job p s))) (sym (byte_is p h)) (lowest_chosen (sign_count job) held.signs (λ s. at f (pair_place job p s)) small (λ s. ltb 0 (over_line f ((key_of job).pair_line p s))) (λ s k. ap (ltb 0) (pair_over p s h k)))
+      rw (byte_is p h) (lowest_chosen (sign_count job) held.signs (λ s. at f (pair_place job p s)) small (λ s. ltb 0 (over_line f ((key_of job).pair_line p s))) (λ s k. ap (ltb 0) (pair_over p s h k)))
 
   -- a count of bytes, over the parts
   counted : (test : ℕ → Bool) → count_upto (length (numbering_of (key_of job) f)) test ≡ upto (part_count job) (λ p. one (test p))
@@ -121,7 +118,7 @@ module _ (job : Job) (held : Held job) (f : List ℕ) where
     in_mask : (p : ℕ) → p < part_count job → (k : byte_at (numbering_of (key_of job) f) p < sign_count job) → allows (part_at job p).mask (byte_at (numbering_of (key_of job) f) p) ≡ true
     in_mask p h k =
         let b = byte_at (numbering_of (key_of job) f) p in
-        one_true (allows (part_at job p).mask b) (omega (arith, (chosen p h).carries b k, ap one (eq-eqb b b refl), (pair_holds p b h k).high))
+        grind (arith, nat_tests, (chosen p h).carries b k, (pair_holds p b h k).high)
 
     part_rule : (p : ℕ) → p < part_count job → PartRule job p (byte_at (numbering_of (key_of job) f) p)
     part_rule p h = record {

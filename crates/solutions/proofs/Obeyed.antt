@@ -1,6 +1,7 @@
 -- A numbering obeys an entry exactly if its flow carries what the entry asks.
-use Rattle.std.proofs.Common.{◌≡◌, ℕ, zero, suc, ◌+◌, ◌<◌, Bool, true, false, not, eqb, List, length, get_or, sym, refl, ap, ◌∙◌, subst, ⊎_elim, arith}
-use Rattle.std.proofs.lemmas.Bool.{cases_Bool, eqb-true, eqb-false, not-true, not-false}
+use Rattle.std.proofs.Common.{◌≡◌, ℕ, zero, suc, ◌+◌, ◌<◌, Bool, true, false, not, eqb, List, length, get_or, sym, refl, ap, ◌∙◌, subst, inl, inr, arith}
+use Rattle.std.proofs.lemmas.Bool.{cases_Bool, eqb-true, eqb-false}
+use Rattle.std.proofs.lemmas.Bool.Decides.{nat_tests}
 use Rattle.network.specs.Flow.{at, Lawful}
 use Rattle.network.specs.declared.role.Role.{Role}
 use Rattle.network.specs.declared.role.Role.TheVariants.{Standing, Pair, Count, Other}
@@ -34,24 +35,16 @@ module _ (test : Bool) (P : Type 0) (so : test ≡ true → P) (not_so : test �
 
   carries_settled : (kind : Bound) (x : ℕ) → Settles kind x P → Bounds kind x (one test)
   carries_settled AtLeast zero h = omega arith
-  carries_settled AtLeast (suc zero) h =
-      ⊎_elim (λ (e : test ≡ true). let is = ap one e in omega (arith, is)) (λ e. absurd (not_so e h)) (cases_Bool test)
+  carries_settled AtLeast (suc zero) h = elim (cases_Bool test) [ inl e ↦ grind (arith, e) | inr e ↦ absurd (not_so e h) ]
   carries_settled AtLeast (suc (suc x)) h = absurd h
-  carries_settled AtMost zero h =
-      ⊎_elim (λ (e : test ≡ true). absurd (h (so e))) (λ e. let is = ap one e in omega (arith, is)) (cases_Bool test)
+  carries_settled AtMost zero h = elim (cases_Bool test) [ inl e ↦ absurd (h (so e)) | inr e ↦ grind (arith, e) ]
   carries_settled AtMost (suc x) h = omega (arith, one_le test)
 
+-- what an entry asks of a numbering is what it asks of the amount that the numbering carries
 module _ (bytes : List ℕ) where
-  -- a part is signed exactly if its byte is not the unsigned one
-  signed_so : (p : ℕ) → not (eqb (byte_at bytes p) unsigned) ≡ true → byte_at bytes p ≡ unsigned → ⊥
-  signed_so p e = eqb-false (byte_at bytes p) unsigned (not-true _ e)
-
-  signed_not_so : (p : ℕ) → not (eqb (byte_at bytes p) unsigned) ≡ false → (byte_at bytes p ≡ unsigned → ⊥) → ⊥
-  signed_not_so p e h = h (eqb-true (byte_at bytes p) unsigned (not-false _ e))
-
   pub asks_from_carried : (kind : Bound) (x : ℕ) (r : Role) → Bounds kind x (carried bytes r) → Asks bytes kind x r
   asks_from_carried kind x (Standing p) h =
-      settled (not (eqb (byte_at bytes p) unsigned)) (byte_at bytes p ≡ unsigned → ⊥) (signed_so p) (signed_not_so p) kind x h
+      settled (not (eqb (byte_at bytes p) unsigned)) (byte_at bytes p ≡ unsigned → ⊥) (λ e. grind (arith, nat_tests, e)) (λ e d. d (grind (arith, nat_tests, e))) kind x h
   asks_from_carried kind x (Pair p s) h =
       settled (eqb (byte_at bytes p) s) (byte_at bytes p ≡ s) (eqb-true _ _) (eqb-false _ _) kind x h
   asks_from_carried kind x (Count s) h = h
@@ -59,7 +52,7 @@ module _ (bytes : List ℕ) where
 
   pub carried_from_asks : (kind : Bound) (x : ℕ) (r : Role) → Asks bytes kind x r → Bounds kind x (carried bytes r)
   carried_from_asks kind x (Standing p) h =
-      carries_settled (not (eqb (byte_at bytes p) unsigned)) (byte_at bytes p ≡ unsigned → ⊥) (signed_so p) (signed_not_so p) kind x h
+      carries_settled (not (eqb (byte_at bytes p) unsigned)) (byte_at bytes p ≡ unsigned → ⊥) (λ e. grind (arith, nat_tests, e)) (λ e d. d (grind (arith, nat_tests, e))) kind x h
   carried_from_asks kind x (Pair p s) h =
       carries_settled (eqb (byte_at bytes p) s) (byte_at bytes p ≡ s) (eqb-true _ _) (eqb-false _ _) kind x h
   carried_from_asks kind x (Count s) h = h

@@ -1,6 +1,7 @@
 -- What fixed and free lines say of lawful numberings under entries.
-use Rattle.std.proofs.Common.{◌≡◌, ℕ, ◌<◌, ◌≤◌, not, eqb, List, sym, ap, ◌∙◌, ⊎_elim, arith}
-use Rattle.std.proofs.lemmas.Bool.{cases_lt, eq-eqb, eqb-true, eqb-false, not-true, not-false}
+use Rattle.std.proofs.Common.{◌≡◌, ℕ, ◌<◌, ◌≤◌, eqb, List, sym, ap, ◌∙◌, inl, inr, arith}
+use Rattle.std.proofs.lemmas.Bool.{cases_lt}
+use Rattle.std.proofs.lemmas.Bool.Decides.{nat_tests}
 use Rattle.network.specs.Net.{Net}
 use Rattle.network.specs.Flow.{at, Lawful, Fixed, Free}
 use Rattle.layers.specs.Present as present
@@ -15,7 +16,7 @@ use Rattle.solutions.specs.Obeyed.{LawfulUnder}
 use Rattle.solutions.specs.Offered.{SomeHas, NoneHas, SomeSigns, NoneSigns, Offers}
 use Rattle.solutions.specs.Solution.{set_of}
 use Rattle.solutions.proofs.Obeyed.{flow_under, forth_under, numbering_under}
-use Rattle.solutions.proofs.Tests.{one, one_le, one_true, one_false}
+use Rattle.solutions.proofs.Tests.{one, one_le}
 use Rattle.solutions.proofs.ToFlow.{carries_part, carries_pair}
 
 module _ (job : Job) (lo hi : ℕ) (es : List Entry) (held : Held job) (standing : present.Standing (whole_net job lo hi) es) where
@@ -46,39 +47,34 @@ module _ (job : Job) (lo hi : ℕ) (es : List Entry) (held : Held job) (standing
         sym (carries_part job (numbering_of (key_of job) f) p h) ∙ ap (λ x. at x p) (forth_under job lo hi es held standing f law)
 
     carried : (p s : ℕ) → p < part_count job → s < sign_count job → 0 < at f (pair_place job p s) → SomeHas job lo hi es p s
-    carried p s h k above =
-        let b = byte_at (numbering_of (key_of job) f) p in
-        (numbering_of (key_of job) f, (under, eqb-true b s (one_true (eqb b s) (omega (arith, pair_says p s h k)))))
+    carried p s h k above = (numbering_of (key_of job) f, (under, grind (arith, nat_tests, pair_says p s h k)))
 
     signs : (p : ℕ) → p < part_count job → 0 < at f p → SomeSigns job lo hi es p
-    signs p h above =
-        let b = byte_at (numbering_of (key_of job) f) p in
-        (numbering_of (key_of job) f, (under, eqb-false b unsigned (not-true _ (one_true (not (eqb b unsigned)) (omega (arith, part_says p h))))))
+    signs p h above = (numbering_of (key_of job) f, (under, λ e. grind (arith, nat_tests, part_says p h)))
 
     unsigns : (p : ℕ) → p < part_count job → at f p ≤ 0 → SomeHas job lo hi es p unsigned
-    unsigns p h none =
-        let b = byte_at (numbering_of (key_of job) f) p in
-        (numbering_of (key_of job) f, (under, eqb-true b unsigned (not-false _ (one_false (not (eqb b unsigned)) (omega (arith, part_says p h))))))
+    unsigns p h none = (numbering_of (key_of job) f, (under, grind (arith, nat_tests, part_says p h)))
 
     part_small : (p : ℕ) → p < part_count job → at f p ≤ 1
     part_small p h = omega (arith, part_says p h, one_le (set_of (numbering_of (key_of job) f) p))
 
   shut : (p s : ℕ) → p < part_count job → s < sign_count job → Fixed g (pair_place job p s) 0 → NoneHas job lo hi es p s
-  shut p s h k fixed bytes law e =
-      omega (arith, pair_fixed bytes law p s 0 h k fixed, ap one (eq-eqb (byte_at bytes p) s e))
+  shut p s h k fixed bytes law e = grind (arith, nat_tests, pair_fixed bytes law p s 0 h k fixed)
 
   -- of two lawful flows that differ on a line, one carries something over it
   loose : (p s : ℕ) → p < part_count job → s < sign_count job → (f : List ℕ) → Lawful g f → Free g (pair_place job p s) (at f (pair_place job p s)) → SomeHas job lo hi es p s
   loose p s h k f law free =
-      ⊎_elim (λ (above : 0 < at f (pair_place job p s)). carried f law p s h k above) (λ (none : at f (pair_place job p s) ≤ 0). let differs = free.1.1 in carried free.0 free.1.0 p s h k (omega arith)) (cases_lt 0 (at f (pair_place job p s)))
+      let differs = free.1.1 in
+      elim (cases_lt 0 (at f (pair_place job p s))) [
+        | inl above ↦ carried f law p s h k above
+        | inr none ↦ carried free.0 free.1.0 p s h k (omega arith)
+      ]
 
   always : (p : ℕ) → p < part_count job → Fixed g p 1 → NoneHas job lo hi es p unsigned
-  always p h fixed bytes law e =
-      omega (arith, part_fixed bytes law p 1 h fixed, ap (λ t. one (not t)) (eq-eqb (byte_at bytes p) unsigned e))
+  always p h fixed bytes law e = grind (arith, nat_tests, part_fixed bytes law p 1 h fixed)
 
   never : (p : ℕ) → p < part_count job → Fixed g p 0 → NoneSigns job lo hi es p
-  never p h fixed bytes law =
-      eqb-true (byte_at bytes p) unsigned (not-false _ (one_false (set_of bytes p) (omega (arith, part_fixed bytes law p 0 h fixed))))
+  never p h fixed bytes law = grind (arith, nat_tests, part_fixed bytes law p 0 h fixed)
 
   -- of two lawful flows that differ on a part's line, one signs the part and one does not
   sometimes : (p : ℕ) → p < part_count job → (f : List ℕ) → Lawful g f → Free g p (at f p) → SomeSigns job lo hi es p × SomeHas job lo hi es p unsigned
@@ -86,9 +82,12 @@ module _ (job : Job) (lo hi : ℕ) (es : List Entry) (held : Held job) (standing
       let other = free.0 in
       let lawful = free.1.0 in
       let differs = free.1.1 in
-      let one-f = part_small f law p h in
-      let one-other = part_small other lawful p h in
-      ⊎_elim (λ (above : 0 < at f p). (signs f law p h above, unsigns other lawful p h (omega arith))) (λ (none : at f p ≤ 0). (signs other lawful p h (omega arith), unsigns f law p h none)) (cases_lt 0 (at f p))
+      let one_f = part_small f law p h in
+      let one_other = part_small other lawful p h in
+      elim (cases_lt 0 (at f p)) [
+        | inl above ↦ (signs f law p h above, unsigns other lawful p h (omega arith))
+        | inr none ↦ (signs other lawful p h (omega arith), unsigns f law p h none)
+      ]
 
   pub offers : Offers job lo hi es
   offers = record {

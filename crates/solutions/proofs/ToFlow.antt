@@ -1,14 +1,14 @@
 -- The flow of a lawful numbering is lawful.
-use Rattle.std.proofs.Common.{◌≡◌, ℕ, ◌+◌, ◌<◌, ◌≤◌, Bool, true, not, eqb, List, length, sym, ap, ◌∙◌, subst, inl, inr, arith}
+use Rattle.std.proofs.Common.{◌≡◌, ℕ, ◌+◌, ◌<◌, ◌≤◌, Bool, true, not, eqb, List, length, sym, ap, ◌∙◌, arith}
 use Rattle.std.proofs.lemmas.List.FromFn.{length-map-range_with_len, get_or-map-range_with_len}
-use Rattle.std.proofs.lemmas.Bool.{eq-eqb, ne_eqb, cases_eq}
+use Rattle.std.proofs.lemmas.Bool.Decides.{nat_tests}
 use Rattle.network.specs.Net.{Net, Line, line, least, most}
 use Rattle.network.specs.Flow.{at, Lawful}
 use Rattle.network.specs.Sum.{upto, count_upto}
 use Rattle.network.specs.declared.role.Role.{Role}
 use Rattle.network.specs.declared.role.Role.TheVariants.{Standing, Pair, Count, Other}
 use Rattle.flows.proofs.Sums.{upto_same, upto_swap}
-use Rattle.series.specs.Job.{Job, part_count, sign_count, part_at, allows, fewest, utmost, signs_from, line_count, standing_line, pair_line, count_line, total_line, whole_net}
+use Rattle.series.specs.Job.{Job, part_count, sign_count, part_at, allows, fewest, utmost, signs_from, line_count, whole_net}
 use Rattle.series.specs.Key.{pair_place, role_at}
 use Rattle.series.specs.Limits.{Held}
 use Rattle.series.specs.Numbering.{byte_at, unsigned, uses, signed, StandingKept, LawfulNumbering}
@@ -43,22 +43,17 @@ module _ (job : Job) (bytes : List ℕ) where
 
 -- bounds of a part by its standing, and of a pair by the mask
 standing_bounds : (s : standing.Standing) (b : ℕ) → StandingKept s b → (fewest s ≤ one (not (eqb b unsigned))) × (one (not (eqb b unsigned)) ≤ utmost s)
-standing_bounds LeftOut b h = (omega arith, omega (arith, ap (λ t. one (not t)) (eq-eqb b unsigned h)))
+standing_bounds LeftOut b h = (omega arith, grind (arith, nat_tests, h))
 standing_bounds Optional b h = (omega arith, one_le (not (eqb b unsigned)))
-standing_bounds Required b h =
-    (omega (arith, ap (λ t. one (not t)) (ne_eqb b unsigned h)), one_le (not (eqb b unsigned)))
+standing_bounds Required b h = (grind (arith, nat_tests, h), one_le (not (eqb b unsigned)))
 
 mask_bound : (mask b s : ℕ) → (b ≡ s → allows mask s ≡ true) → one (eqb b s) ≤ one (allows mask s)
-mask_bound mask b s h =
-    elim (cases_eq b s) [ inl e ↦ omega (arith, one_le (eqb b s), ap one (h e)) | inr d ↦ omega (arith, ap one (ne_eqb b s d)) ]
+mask_bound mask b s h = grind (arith, nat_tests, h)
 
 -- a line's bounds hold of an amount
 pub record Holds (l : Line) (x : ℕ) : Type 0 where
   pub low : least l ≤ x
   pub high : x ≤ most l
-
-pub holds_of : (l m : Line) (x y : ℕ) → l ≡ m → x ≡ y → Holds m y → Holds l x
-holds_of l m x y e d h = rw (e, d) h
 
 module _ (job : Job) (lo hi : ℕ) (held : Held job) (bytes : List ℕ) (lawful : LawfulNumbering job lo hi bytes) where
   -- a count of bytes, over the parts
@@ -94,10 +89,10 @@ module _ (job : Job) (lo hi : ℕ) (held : Held job) (bytes : List ℕ) (lawful 
   bounds : (k : ℕ) → k < line_count job + 1 → Holds (line g k) (at (flow_of job bytes) k)
   bounds =
       each_place job (λ k. Holds (line g k) (at (flow_of job bytes) k))
-      (λ p h. let b = standing_bounds (part_at job p).standing (byte_at bytes p) (lawful.parts p h).standing in holds_of (line g p) (standing_line job p) _ (one (set_of bytes p)) (line_part job lo hi p h) (carries_part job bytes p h) (record { low = b.0; high = b.1 }))
-      (λ p s h k. holds_of (line g (pair_place job p s)) (pair_line job p s) _ (one (eqb (byte_at bytes p) s)) (line_pair job lo hi p s h k) (carries_pair job bytes p s h k) (record { low = omega arith; high = mask_bound (part_at job p).mask (byte_at bytes p) s (λ e. subst (λ b. allows (part_at job p).mask b ≡ true) e ((lawful.parts p h).mask (omega arith))) }))
-      (λ s k. holds_of (line g (signs_from job + s)) (count_line job s) _ (uses bytes s) (line_sign job lo hi s k) (carries_sign job bytes s k) (record { low = (lawful.signs s k).0; high = (lawful.signs s k).1 }))
-      (holds_of (line g (line_count job)) (total_line job lo hi) _ (signed bytes) (line_last job lo hi) (carries_last job bytes) (record { low = lawful.total.0; high = lawful.total.1 }))
+      (λ p h. let b = standing_bounds (part_at job p).standing (byte_at bytes p) (lawful.parts p h).standing in rw (line_part job lo hi p h, carries_part job bytes p h) (record { low = b.0; high = b.1 }))
+      (λ p s h k. rw (line_pair job lo hi p s h k, carries_pair job bytes p s h k) (record { low = omega arith; high = mask_bound (part_at job p).mask (byte_at bytes p) s (λ e. rw e at ((lawful.parts p h).mask (omega arith))) }))
+      (λ s k. rw (line_sign job lo hi s k, carries_sign job bytes s k) (record { low = (lawful.signs s k).0; high = (lawful.signs s k).1 }))
+      (rw (line_last job lo hi, carries_last job bytes) (record { low = lawful.total.0; high = lawful.total.1 }))
 
   pub flow_lawful : Lawful (whole_net job lo hi) (flow_of job bytes)
   flow_lawful = record {

@@ -5,30 +5,22 @@
 ghost use Rattle.solutions.specs.Theorems.{LawfulNumberingsAreSolutions, LawfulNumberingsAreLawfulFlows, UnderEntriesToo, FixedAndFreeLinesTellNumberings};
 
 // The lawful numberings of a job are exactly the solutions of its rules, said without bytes.
-pub fn lawful_numberings_are_solutions() -> u8
+pub fn lawful_numberings_are_solutions()
     ensures { LawfulNumberingsAreSolutions }
-{
-    0
-}
+{}
 
 // Each lawful numbering is one lawful flow of the network of the whole job, and the reverse.
-pub fn lawful_numberings_are_lawful_flows() -> u8
+pub fn lawful_numberings_are_lawful_flows()
     ensures { LawfulNumberingsAreLawfulFlows }
-{
-    0
-}
+{}
 
 // Lawful under entries as a numbering is the same as lawful under them as a flow.
-pub fn numberings_and_flows_obey_entries_alike() -> u8
+pub fn numberings_and_flows_obey_entries_alike()
     ensures { UnderEntriesToo }
-{
-    0
-}
+{}
 
 // A sign is fixed at 0 for a part exactly if no lawful numbering under the entries gives it to that part, and a part's line tells
 // whether the part is signed in all of them, in none, or in some.
-pub fn fixed_and_free_lines_tell_numberings() -> u8
+pub fn fixed_and_free_lines_tell_numberings()
     ensures { FixedAndFreeLinesTellNumberings }
-{
-    0
-}
+{}

@@ -7,6 +7,7 @@ use network::Network;
 use network::line_record::LineRecord;
 use std::test::Fail;
 
+// Written out, since a constant's value may not be a call.
 const ACROSS: LineRecord = LineRecord {
     tail: 0,
     head: 1,
@@ -62,12 +63,7 @@ fn entry(line: usize, bound: Bound, amount: u16) -> Entry {
 // Entries below and above the closing layer act on one line. Each row: an entry laid above, the answer, and the line's bounds then.
 #[test]
 fn entries_act_through_the_stack(rt: HostRuntime) -> Result<(), Fail> {
-    let records = [LineRecord {
-        tail: 0,
-        head: 1,
-        least: 0,
-        most: 99,
-    }];
+    let records = [LineRecord::new(0, 1, 0, 99)];
     let mut network = Listed::new();
     network.load(2, 1, &records)?;
     let mut inner = Entries::new(network);

@@ -1,40 +1,23 @@
 -- Bytes put one behind the other.
-use Rattle.std.proofs.Common.{◌≡◌, ℕ, ◌+◌, ◌≤◌, List, [], ◌++◌, length, take, drop, sym, ap, ◌∙◌, append_assoc, add-zero, add_assoc, arith}
-use Rattle.std.proofs.lemmas.List.{length-append, length-take-le, length-drop, take-append-drop, take_at, drop_at, drop-drop}
+use Rattle.std.proofs.Common.{◌≡◌, ℕ, ◌+◌, ◌≤◌, List, ◌++◌, length, take, drop, ap, ◌∙◌, append_assoc, add_assoc, arith}
+use Rattle.std.proofs.lemmas.Grind.{common_steps}
+use Rattle.std.proofs.lemmas.List.{drop-drop, length-append, take_at}
 use Rattle.text.specs.Placed.{placed, Placed}
 
 length_placed : (t : List ℕ) (at : ℕ) (bytes : List ℕ) → at + length bytes ≤ length t → length (placed t at bytes) ≡ length t
-length_placed t at bytes h =
-    let front : at ≤ length t = omega arith in
-    length-append (take at t) (bytes ++ drop (at + length bytes) t)
-    ∙ omega (arith, length-take-le at t front, length-append bytes (drop (at + length bytes) t), length-drop (at + length bytes) t)
+length_placed t at bytes h = grind (arith, common_steps)
 
 -- the text is as long as before
 pub length_after : {before : List ℕ} {at : ℕ} {bytes after : List ℕ} {end : ℕ} → Placed before at bytes after end → length after ≡ length before
 length_after {before} {at} {bytes} {after} {end} p = ap length p.text ∙ length_placed before at bytes (omega arith)
 
--- nothing put
-pub placed_none : (t : List ℕ) (at : ℕ) → at ≤ length t → Placed t at [] t at
-placed_none t at h =
-    record { text = sym (ap (λ n. take at t ++ drop n t) (add-zero at) ∙ take-append-drop at t); end = sym (add-zero at); room = h }
-
 -- two writes, the second behind the first, are one
 placed_two : (t : List ℕ) (at : ℕ) (xs ys : List ℕ) → at + length xs + length ys ≤ length t → placed (placed t at xs) (at + length xs) ys ≡ placed t at (xs ++ ys)
 placed_two t at xs ys room =
     let n = at + length xs in
-    let front = take at t ++ xs in
-    let rest = drop n t in
-    let inside : at ≤ length t = omega arith in
-    let shape : placed t at xs ≡ front ++ rest = sym (append_assoc (take at t) xs rest) in
-    let long : length front ≡ n = length-append (take at t) xs ∙ ap (λ k. k + length xs) (length-take-le at t inside) in
-    let before : take n (placed t at xs) ≡ front = ap (take n) shape ∙ take_at front rest n long in
-    let behind : drop (n + length ys) (placed t at xs) ≡ drop (at + length (xs ++ ys)) t =
-    sym (drop-drop (length ys) n (placed t at xs)) ∙ ap (drop (length ys)) (ap (drop n) shape ∙ drop_at front rest n long)
-    ∙ drop-drop (length ys) n t ∙ ap (λ k. drop k t) (add_assoc at (length xs) (length ys) ∙ ap (λ k. at + k) (sym (length-append xs ys))) in
-    ap (λ z. z ++ (ys ++ drop (n + length ys) (placed t at xs))) before
-    ∙ ap (λ z. front ++ (ys ++ z)) behind
-    ∙ append_assoc (take at t) xs _
-    ∙ ap (λ z. take at t ++ z) (sym (append_assoc xs ys _))
+    let before : take n (placed t at xs) ≡ take at t ++ xs = grind (arith, common_steps) in
+    let behind : drop n (placed t at xs) ≡ drop n t = grind (arith, common_steps) in
+    rw (before, ← drop-drop (length ys) n, behind, drop-drop, length-append, ← add_assoc) (simp append_assoc)
 
 pub placed_then : {t : List ℕ} {at : ℕ} {xs u : List ℕ} {mid : ℕ} {ys v : List ℕ} {behind : ℕ} → Placed t at xs u mid → Placed u mid ys v behind
     → Placed t at (xs ++ ys) v behind

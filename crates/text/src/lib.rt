@@ -1,36 +1,34 @@
-// Lines of text in a lent buffer: fixed byte strings and decimal numbers, one behind the other.
+// Lines of text in a lent buffer: bytes and decimal numbers, one behind the other.
 #![tactic(auto)]
 
-ghost use Rattle.std.specs.Prelude.{◌≡◌, ◌+◌, ◌≤◌, [], ◌∷◌, length, decimal};
-ghost use Rattle.text.specs.Placed.{Placed};
+ghost use Rattle.std.specs.Prelude.{◌≤◌, [], ◌∷◌, length, decimal};
+ghost use Rattle.text.specs.Puts.{Puts, room};
 
-// Puts bytes at a place, and tells the place behind them.
-pub fn put(text: &mut [u8], at: usize, bytes: &[u8]) -> usize
-    requires { at + length bytes.now ≤ length text.old }
-    ensures { Placed text.old at bytes.now text.new result }
+use buffers::places::Places;
+use itoa::Buffer;
+
+// Puts one byte behind what stands of a text.
+pub fn put_byte(text: &mut Places<'_, u8>, byte: u8)
+    requires { 1 ≤ room text.old }
+    ensures { Puts text.old (byte ∷ []) text.new }
 {
-    let end = at + bytes.len();
-    text[at..end].copy_from_slice(bytes);
-    end
+    text.push(byte).unwrap();
 }
 
-// Puts one byte.
-pub fn put_byte(text: &mut [u8], at: usize, byte: u8) -> usize
-    requires { at + 1 ≤ length text.old }
-    ensures { Placed text.old at (byte ∷ []) text.new result }
+// Puts bytes.
+pub fn put(text: &mut Places<'_, u8>, bytes: &[u8])
+    requires { length bytes.now ≤ room text.old }
+    ensures { Puts text.old bytes.now text.new }
 {
-    text[at] = byte;
-    at + 1
+    for byte in bytes {
+        put_byte(text, *byte);
+    }
 }
 
 // Puts a number in decimal digits, with no zero in front.
-pub fn put_number(text: &mut [u8], at: usize, number: usize) -> usize
-    requires { at + length (decimal number) ≤ length text.old }
-    ensures { Placed text.old at (decimal number) text.new result }
+pub fn put_number(text: &mut Places<'_, u8>, number: usize)
+    requires { length (decimal number) ≤ room text.old }
+    ensures { Puts text.old (decimal number) text.new }
 {
-    if number < 10 {
-        return put_byte(text, at, 48 + number as u8);
-    }
-    let front = put_number(text, at, number / 10);
-    put_byte(text, front, 48 + (number % 10) as u8)
+    put(text, Buffer::new().format(number).as_bytes());
 }

@@ -1,59 +1,37 @@
 -- What the answers of the two searches for a line come to.
-use Rattle.std.proofs.Common.{◌≡◌, ℕ, ◌+◌, ◌<◌, ◌≤◌, Bool, true, false, List, length, get_or, set, replicate, sym, ap, subst, arith, below_more}
+use Rattle.std.proofs.Common.{◌≡◌, ℕ, ◌+◌, ◌<◌, Bool, true, false, cond, eqb, ltb, List, length, get_or, set, sym, subst, arith, below_more}
 use Rattle.std.proofs.lemmas.List.{get_or-set_same, get_or-set_other}
+use Rattle.std.proofs.lemmas.Bool.{ltb-true}
 use Rattle.network.specs.Net.{Limits, Net, size, line, tail, head, least, most}
-use Rattle.network.specs.Flow.{at, Lawful}
-use Rattle.network.specs.Records.{line_of, net_of}
-use Rattle.network.specs.declared.line_record.LineRecord.{LineRecord}
-use Rattle.flows.specs.Bounds.{AtMost, AtLeast}
-use Rattle.flows.proofs.Lawful.{top, floor, full, bare}
+use Rattle.network.specs.Flow.{at, Lawful, Free}
+use Rattle.flows.proofs.Lawful.{top, floor}
 use Rattle.flows.proofs.Round.{free_above, free_below}
-use Rattle.network.proofs.Records.{line_at, line_is, no_record}
-use Rattle.verdicts.specs.Search.{Answer}
-use Rattle.verdicts.specs.Verdicts.{CanRise, CanFall, Verdict}
+use Rattle.index.specs.Steps.{origin, target}
+use Rattle.index.specs.declared.step.Step.{Step}
+use Rattle.verdicts.specs.Search.{has_room, Answer}
+use Rattle.verdicts.specs.declared.lent.Lent.{Lent}
+use Rattle.verdicts.specs.Verdicts.{Bound, CanChange, Verdict}
 
--- the line is known by its two ends, its bounds and its amount
-module _ (g : Net) (limits : Limits g) (f : List ℕ) (law : Lawful g f) (l : ℕ) (inside : l < size g) where
-  rises : at f l < most (line g l) → (r : Bool) → Answer g f l (head (line g l)) (tail (line g l)) r → CanRise g f l r
-  rises room true answer = free_above g f law l inside room answer.set answer.spread answer.holds
-  rises room false answer = top g limits f law answer.set l inside answer.closed answer.holds answer.lacks
+-- what the room for a step and the answer of a search for a way back come to
+module _ (g : Net) (limits : Limits g) (f : List ℕ) (law : Lawful g f) (s : Step) (inside : s.line < size g) where
+  pub way_round : has_room g f s ≡ true → (r : Bool) → Answer g f s.line (target g s) (origin g s) r → CanChange g f s r
+  way_round room r = pick (eqb s.direction 0) room r
+    where
+      Told : Bool → Bool → Type 0
+      Told b true = Free g s.line (at f s.line)
+      Told b false = Bound g s.line (at f s.line) b
 
-  falls : least (line g l) < at f l → (r : Bool) → Answer g f l (tail (line g l)) (head (line g l)) r → CanFall g f l r
-  falls room true answer = free_below g f law l inside room answer.set answer.spread answer.holds
-  falls room false answer = floor g limits f law answer.set l inside answer.closed answer.holds answer.lacks
+      pick : (b : Bool) → cond b (ltb (at f s.line) (most (line g s.line))) (ltb (least (line g s.line)) (at f s.line)) ≡ true → (r : Bool)
+          → Answer g f s.line (cond b (head (line g s.line)) (tail (line g s.line))) (cond b (tail (line g s.line)) (head (line g s.line))) r → Told b r
+      pick true some true answer = free_above g f law s.line inside (ltb-true _ _ some) answer.set answer.spread answer.holds
+      pick true some false answer = top g limits f law answer.set s.line inside answer.closed answer.holds answer.lacks
+      pick false some true answer = free_below g f law s.line inside (ltb-true _ _ some) answer.set answer.spread answer.holds
+      pick false some false answer = floor g limits f law answer.set s.line inside answer.closed answer.holds answer.lacks
 
--- the same for a line that is read from its record
-module _ (nodes : ℕ) (lines : List LineRecord) (limits : Limits (net_of nodes lines)) (place : ℕ) (inside : place < length lines) where
-  listed : place < size (net_of nodes lines)
-  listed = (line_at nodes lines place limits inside).inside
-
-  is : line (net_of nodes lines) place ≡ line_of (get_or lines place no_record)
-  is = line_is nodes lines place
-
-  pub at_its_most : (f : List ℕ) → (get_or lines place no_record).most ≤ at f place → AtMost (net_of nodes lines) place (at f place)
-  at_its_most f bound = full (net_of nodes lines) place (at f place) listed (omega (arith, ap most is))
-
-  pub at_its_least : (f : List ℕ) → at f place ≤ (get_or lines place no_record).least → AtLeast (net_of nodes lines) place (at f place)
-  at_its_least f bound = bare (net_of nodes lines) place (at f place) listed (omega (arith, ap least is))
-
-  module _ (f : List ℕ) (law : Lawful (net_of nodes lines) f) (r : Bool) where
-    pub can_rise : at f place < (get_or lines place no_record).most
-        → Answer (net_of nodes lines) f place (get_or lines place no_record).head (get_or lines place no_record).tail r
-        → CanRise (net_of nodes lines) f place r
-    can_rise room answer =
-        rises (net_of nodes lines) limits f law place listed (omega (arith, ap most is)) r
-        (subst (λ x. Answer (net_of nodes lines) f place (head x) (tail x) r) (sym is) answer)
-
-    pub can_fall : (get_or lines place no_record).least < at f place
-        → Answer (net_of nodes lines) f place (get_or lines place no_record).tail (get_or lines place no_record).head r
-        → CanFall (net_of nodes lines) f place r
-    can_fall room answer =
-        falls (net_of nodes lines) limits f law place listed (omega (arith, ap least is)) r
-        (subst (λ x. Answer (net_of nodes lines) f place (tail x) (head x) r) (sym is) answer)
-
--- The lines before the one at this place have their verdicts, and the marks are blank.
-pub record Judged (g : Net) (f verdicts marks : List ℕ) (place : ℕ) : Type 0 where
-  pub blank : marks ≡ replicate g.nodes 0
+-- The lines before the one at this place have their verdicts, in memory that is still the lender's.
+pub record Judged (g : Net) (f verdicts : List ℕ) (lent lent' : Lent) (place : ℕ) : Type 0 where
+  pub marks : lent'.marks.ghost_name ≡ lent.marks.ghost_name
+  pub nodes : length lent'.marks.now ≡ length lent.marks.now
   pub told : (i : ℕ) → i < place → Verdict g f i (get_or verdicts i 0)
 
 -- one verdict more

@@ -1,7 +1,7 @@
 pub mod Found
-pub mod Ground
 pub mod Growth
+pub mod Judging
+pub mod Rows
+pub mod Start
 pub mod Visit
 pub mod Visits
-pub mod Start
-pub mod Judging

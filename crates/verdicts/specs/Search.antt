@@ -1,29 +1,23 @@
 -- What a search over steps with room has found, and what it keeps as it goes on.
 use Rattle.std.specs.Prelude.{◌≡◌, ℕ, ◌+◌, ◌<◌, ◌≤◌, Bool, true, false, cond, not, ◌&&◌, ◌||◌, List, length, ◌==◌, nat_lt, slice_index}
-use Rattle.network.specs.Net.{Net, Limits, line, least, most}
+use Rattle.network.specs.Net.{Net, line, least, most}
 use Rattle.network.specs.Flow.{at}
-use Rattle.network.specs.Records.{net_of}
-use Rattle.network.specs.declared.line_record.LineRecord.{LineRecord}
 use Rattle.flows.specs.Bounds.{Closed}
 use Rattle.flows.specs.Trails.{Spread}
 use Rattle.buffers.specs.Marks.{marked, blanks}
 use Rattle.buffers.specs.declared.marks.Marks.{Marks}
 use Rattle.buffers.specs.declared.places.Places.{Places}
-use Rattle.index.specs.Rows.{Indexed, Leaves}
+use Rattle.index.specs.Rows.{Leaves}
 use Rattle.index.specs.Steps.{target}
 use Rattle.index.specs.declared.step.Step.{Step}
 
--- What a search goes over: a network within the limits, the index of its steps, and an amount for each line.
-pub record Ground (nodes : ℕ) (lines : List LineRecord) (starts : List ℕ) (index : List Step) (flow : List ℕ) : Type 0 where
-  pub limits : Limits (net_of nodes lines)
-  pub indexed : Indexed (net_of nodes lines) starts index
-  pub amounts : length flow ≡ length lines
+-- one more can go over the step: along its line where that carries less than its most, against it where more than its least
+abbrev pub has_room : Net → List ℕ → Step → Bool
+has_room g f s = cond (s.direction == 0) (nat_lt (at f s.line) (most (line g s.line))) (nat_lt (least (line g s.line)) (at f s.line))
 
 -- a step that a search may take: not over the line to avoid, and with room for one more
 abbrev pub passable : Net → List ℕ → ℕ → Step → Bool
-passable g f avoid s =
-    not (s.line == avoid)
-    && cond (s.direction == 0) (nat_lt (at f s.line) (most (line g s.line))) (nat_lt (least (line g s.line)) (at f s.line))
+passable g f avoid s = not (s.line == avoid) && has_room g f s
 
 -- What a search has found: the mark bytes of so many nodes, and a list of nodes over lent places.
 pub record Found : Type 0 where

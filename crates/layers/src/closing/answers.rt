@@ -16,10 +16,7 @@ impl<N: Network> Network for Closing<N> {
 
     fn lines(&self) -> usize {
         let lines = self.below.lines();
-        match self.standing(lines) {
-            Some(_) => lines + 1,
-            None => lines,
-        }
+        lines + usize::from(self.standing(lines).is_some())
     }
 
     fn line(&self, place: usize) -> Option<(u16, u16, u16, u16)> {
@@ -29,7 +26,7 @@ impl<N: Network> Network for Closing<N> {
         }
         let lines = self.below.lines();
         if place != lines {
-            return inside;
+            return None;
         }
         let last = self.standing(lines)?;
         Some((last.tail, last.head, last.least, last.most))

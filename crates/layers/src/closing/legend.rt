@@ -1,4 +1,5 @@
 // The closing layer as a legend: the last line stands for nothing in particular, the others for what they do below.
+// Each layer hands the five questions on for itself: no impl for every layer may be written here, since the trait is another crate's.
 ghost use Rattle.layers.specs.Closing.{standing_last, closed_net};
 ghost use Rattle.layers.specs.Keys.{keyed_kept};
 ghost use Rattle.layers.specs.Last.{size_grows};

@@ -16,10 +16,12 @@ impl<N: Network> Network for Entries<N> {
         self.below.nodes()
     }
 
+    #[tactic(auto, using(crate::specs::Under::size_bounded))]
     fn lines(&self) -> usize {
         self.below.lines()
     }
 
+    #[tactic(auto, using(crate::proofs::Asked::line_under))]
     fn line(&self, place: usize) -> Option<(u16, u16, u16, u16)> {
         let (tail, head, least, most) = ask(&self.below, place)?;
         let present = self.column.bounds(place, Bounds { least, most });

@@ -1,4 +1,5 @@
 // The entries layer as a legend: each line stands for what it does below.
+// Each layer hands the five questions on for itself: no impl for every layer may be written here, since the trait is another crate's.
 ghost use Rattle.std.proofs.Common.{arith};
 ghost use Rattle.layers.specs.Column.{entries_of};
 ghost use Rattle.layers.specs.Entries.{bounds_under, net_under};

@@ -7,7 +7,7 @@ use network::Network;
 impl<'a> Network for Listed<'a> {
     ghost meaning = { held };
 
-    ghost limits = { λ s. record { nodes = s.narrow; count = s.short; each = λ k h. record { tail = s.tails k h; head = s.heads k h; ordered = s.ordered k h; small = s.small k h } } };
+    ghost limits = { λ s. s.within };
 
     fn nodes(&self) -> usize {
         self.nodes

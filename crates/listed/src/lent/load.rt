@@ -13,19 +13,14 @@ use network::line_record::LineRecord;
 fn fits(nodes: usize, line: LineRecord) -> bool
     ensures { Decides result (Fit nodes (line_of line)) }
 {
-    (line.tail as usize) < nodes && (line.head as usize) < nodes && line.least <= line.most
+    usize::from(line.tail) < nodes && usize::from(line.head) < nodes && line.least <= line.most
 }
 
 // The place of the first line that does not fit.
 fn first_unfit(nodes: usize, records: &[LineRecord]) -> Option<usize>
     ensures { MatchOption result (AllFit (net_of nodes records.now)) (λ place. FirstUnfit (net_of nodes records.now) place) }
 {
-    for place in 0..records.len() {
-        if !fits(nodes, records[place]) {
-            return Some(place);
-        }
-    }
-    None
+    records.iter().position(|line| !fits(nodes, *line))
 }
 
 impl<'a> Listed<'a> {
@@ -39,7 +34,8 @@ impl<'a> Listed<'a> {
         }
     }
 
-    // Holds the network of so many nodes that the first `count` records tell. Where it is refused, the network held before stays.
+    // Holds the network of so many nodes that the first `count` records tell; the number stands beside the slice, since a slice that is
+    // shorter than it is refused. Where it is refused, the network held before stays.
     pub fn load(
         &mut self,
         nodes: usize,
@@ -48,13 +44,10 @@ impl<'a> Listed<'a> {
     ) -> Result<(), ListedRefusal>
         ensures { Loaded nodes count records.now (held self.old) (held self.new) result }
     {
-        if records.len() < count {
-            return Err(ListedRefusal::Short);
-        }
+        let lines = records.get(..count).ok_or(ListedRefusal::Short)?;
         if nodes > 1024 || count > 16384 {
             return Err(ListedRefusal::TooLarge);
         }
-        let lines = &records[0..count];
         if let Some(place) = first_unfit(nodes, lines) {
             return Err(ListedRefusal::BadLine(place));
         }

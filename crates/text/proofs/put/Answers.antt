@@ -1,16 +1,9 @@
-use Rattle.std.proofs.Common.{◌≡◌, ◌+◌, ◌-◌, ◌++◌, length, take, drop, refl, ap, ◌∙◌, arith}
-use Rattle.std.proofs.lemmas.List.{drop-drop}
+use Rattle.std.proofs.Common.{◌<◌, length, arith}
+use Rattle.std.proofs.lemmas.List.{take_more}
+use Rattle.text.proofs.Putting.{puts_then}
 use Rattle.text.proofs.put.Goals as goal
 
-pub returns : goal.returns
-returns c =
-    let text = c.args.text.now in
-    let at = c.args.at in
-    let bytes = c.args.bytes.now in
-    let k = at + length bytes - at in
-    let same : at + k ≡ at + length bytes = omega arith in
-    record {
-      text = ap (λ z. take at text ++ (z ++ drop k (drop at text))) c.copy_from_slice.ensures.after ∙ ap (λ z. take at text ++ (bytes ++ z)) (drop-drop k at text ∙ ap (λ n. drop n text) same);
-      end = refl;
-      room = c.requires;
-    }
+pub loop-byte-preserved : goal.loop-byte-preserved
+loop-byte-preserved c =
+    let inside : c.loop-byte.byte-index < length c.args.bytes.now = omega arith in
+    rw (take_more c.args.bytes.now c.loop-byte.byte-index 0 inside) (puts_then c.loop-byte.invariant c.put_byte.ensures)

@@ -1,15 +1,18 @@
-use Rattle.std.proofs.Common.{arith}
+use Rattle.index.specs.Steps.{along}
+use Rattle.reach.proofs.Read.{read_element}
 use Rattle.augment.proofs.Pushing.{carry_inside, carry_more, carry_less, carry_next}
 use Rattle.augment.proofs.push.push_along.Goals as goal
 
 pub carry-requires : goal.carry-requires
 carry-requires c =
+    let read = read_element _ _ c.loop-step.step-index (along 0) c.args.walk.now.fits _ c.elements-step-items.ensures c.loop-step-test.true in
     record {
-      inside = carry_inside _ _ _ _ c.requires c.loop-k.k (omega (arith, c.loop-k-test.true, c.len-k-end.ensures)) _ c.loop-k.invariant _ c.step_at.ensures;
-      more = carry_more _ _ _ _ c.requires c.loop-k.k (omega (arith, c.loop-k-test.true, c.len-k-end.ensures)) _ c.loop-k.invariant _ c.step_at.ensures;
-      less = carry_less _ _ _ _ c.requires c.loop-k.k (omega (arith, c.loop-k-test.true, c.len-k-end.ensures)) _ c.loop-k.invariant _ c.step_at.ensures;
+      inside = carry_inside c.requires c.loop-step.invariant read;
+      more = carry_more c.requires c.loop-step.invariant read;
+      less = carry_less c.requires c.loop-step.invariant read;
     }
 
-pub loop-k-preserved : goal.loop-k-preserved
-loop-k-preserved c =
-    carry_next _ _ _ _ c.requires c.loop-k.k (omega (arith, c.loop-k-test.true, c.len-k-end.ensures)) _ c.loop-k.invariant _ c.step_at.ensures _ c.carry.ensures
+pub loop-step-preserved : goal.loop-step-preserved
+loop-step-preserved c =
+    let read = read_element _ _ c.loop-step.step-index (along 0) c.args.walk.now.fits _ c.elements-step-items.ensures c.loop-step-test.true in
+    carry_next c.requires c.loop-step.invariant read c.carry.ensures

@@ -1,20 +1,19 @@
-use Rattle.std.proofs.Common.{◌≡◌, arith}
-use Rattle.blocks.proofs.Weights.{weighted_none, weighted_more, check_of_is, term_small}
+use Rattle.std.proofs.Common.{length, ap, arith, length-take}
+use Rattle.blocks.proofs.Weights.{weighted_none, weighted_next, term_small}
 use Rattle.blocks.proofs.block.check.Goals as goal
 
 pub loop-place-init : goal.loop-place-init
-loop-place-init c = (weighted_none c.args.block.now, omega arith)
-
-pub overflow_add-sum-in-loop-place : goal.overflow_add-sum-in-loop-place
-overflow_add-sum-in-loop-place c = let small = term_small c.loop-place.place c.from.result (omega arith) (omega arith) in omega (arith, small)
+loop-place-init c = record {
+  few = omega (arith, ap length c.part-byte-items.ensures, length-take 510 c.args.block.now);
+  told = weighted_none c.args.block.now;
+  small = omega arith;
+}
 
 pub loop-place-preserved : goal.loop-place-preserved
 loop-place-preserved c =
-    let small = term_small c.loop-place.place c.from.result (omega arith) (omega arith) in
-    let more = weighted_more c.loop-place.place c.args.block.now in
-    (cc, omega (arith, small))
-
-pub returns : goal.returns
-returns c =
-    let is = check_of_is c.args.block.now in
-    let end : c.loop-place.place ≡ 510 = omega arith in cc
+    let next = weighted_next 510 c.loop-place.place _ c.args.block.now c.part-byte-items.ensures c.loop-place-test.true in
+    record {
+      few = c.loop-place.invariant.few;
+      told = cc;
+      small = omega (arith, term_small c.loop-place.place c.from.result (omega arith) (omega arith));
+    }

@@ -3,5 +3,5 @@ use Rattle.network.specs.Flow.{at}
 use Rattle.reach.specs.Levels.{level}
 use Rattle.circulation.proofs.circulate.find_source.Given as goal
 
-abbrev pub invariant-loop-v : goal.invariant-loop-v
-invariant-loop-v l = (k : ℕ) → k < l.v → 0 < at l.spare k → l.nodes ≤ level l.distance k
+abbrev pub invariant-loop-node : goal.invariant-loop-node
+invariant-loop-node l = (k : ℕ) → k < l.node → 0 < at l.repair.spare.now k → l.repair.graph.nodes ≤ level l.distance k

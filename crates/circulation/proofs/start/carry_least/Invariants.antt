@@ -4,5 +4,5 @@ use Rattle.network.specs.Flow.{at}
 use Rattle.network.specs.Records.{net_of}
 use Rattle.circulation.proofs.start.carry_least.Given as goal
 
-abbrev pub invariant-loop-i : goal.invariant-loop-i
-invariant-loop-i l = (k : ℕ) → k < l.i → at l.flow k ≡ least (line (net_of 0 l.lines) k)
+abbrev pub invariant-loop-place : goal.invariant-loop-place
+invariant-loop-place l = (k : ℕ) → k < l.place → at l.flow k ≡ least (line (net_of 0 l.lines) k)

@@ -1,6 +1,6 @@
-use Rattle.network.specs.Records.{net_of}
+use Rattle.index.specs.Graph.{net}
 use Rattle.circulation.specs.Gathering.{Gathered}
 use Rattle.circulation.proofs.start.gather.Given as goal
 
-abbrev pub invariant-loop-k : goal.invariant-loop-k
-invariant-loop-k l = Gathered (net_of l.nodes l.lines) l.k l.entered l.left
+abbrev pub invariant-loop-line : goal.invariant-loop-line
+invariant-loop-line l = Gathered (net l.graph) l.line-index l.entered l.left

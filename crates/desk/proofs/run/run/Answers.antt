@@ -13,6 +13,9 @@ loop-k-init g c =
     let b = c.new-layer.result.below in
     (refl, going_none (g.L.Network.meaning b) (g.L.Legend.key b) (g.B.Labels.labelled c.args.labels.now) c.args.acts.now (entries_of c.new-layer.result.column) (vec_items c.new-transcript.result) c.new-layer.ensures.empty c.new-transcript.ensures.items)
 
+pub step-requires : goal.step-requires
+step-requires g c = rw c.loop-k.invariant.0 c.loop-k.invariant.1.stands
+
 pub loop-k-preserved : goal.loop-k-preserved
 loop-k-preserved g c =
     let b = c.new-layer.result.below in

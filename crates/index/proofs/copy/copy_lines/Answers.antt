@@ -1,5 +1,6 @@
-use Rattle.std.proofs.Common.{◌+◌, ◌<◌, sym, subst, arith}
-use Rattle.network.specs.Net.{size}
+use Rattle.std.proofs.Common.{◌+◌, ◌<◌, sym, ap, ◌∙◌, subst, arith}
+use Rattle.network.specs.Net.{size, told}
+use Rattle.network.specs.Records.{line_of}
 use Rattle.index.specs.Copy.{Held}
 use Rattle.index.proofs.Copied.{answer_is, answered, held_more, same_from_held, limits_same}
 use Rattle.index.proofs.copy.copy_lines.Goals as goal
@@ -12,7 +13,7 @@ loop-place-preserved g c =
     let inside : place < size n = omega arith in
     elim c.match-ask.branch [
       | in-Some w ↦
-          let told_is = answer_is n place inside _ w.in-Some.ensures in
+          let told_is = ap (λ r. told (line_of r)) w.new.ensures ∙ answer_is n place inside _ w.in-Some.ensures in
           subst (λ records. Held n records (place + 1)) (sym w.lines-is) (held_more n c.loop-place.lines place _ (omega arith) told_is c.loop-place.invariant)
       | in_default w ↦ absurd (answered n place inside w.in_default.ensures)
     ]

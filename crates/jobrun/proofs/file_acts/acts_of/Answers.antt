@@ -1,37 +1,23 @@
-use Rattle.std.proofs.Common.{◌≡◌, ℕ, ◌+◌, ◌<◌, ◌≤◌, List, [], ◌∷◌, ◌++◌, length, get_or, take, Some, None, Option, sym, ap, ◌∙◌, arith}
-use Rattle.std.proofs.lemmas.List.{take_more, take_all}
-use Rattle.std.proofs.lemmas.Option.{slice_get-get_or}
-use Rattle.std.proofs.lemmas.Slice.{pushed}
-use Rattle.std.specs.List.{slice_get}
-use Rattle.contents.specs.declared.act.Act.{Act}
-use Rattle.contents.specs.declared.act.Act.TheVariants.{Undo}
+use Rattle.std.proofs.Common.{◌≡◌, ℕ, zero, suc, ◌+◌, ◌-◌, List, [], ◌∷◌, length, refl, ap, ◌∙◌, rules, tests, arith}
+use Rattle.std.proofs.lemmas.Iterator.{items_from_collect, YieldsList-from_range}
+use Rattle.std.proofs.lemmas.Iterator.Consumers.{YieldsList-from_filter_map}
+use Rattle.std.specs.List.{cons_option, filter_map, range_with_len, slice_get}
 use Rattle.jobfile.specs.Contents.{acts_of}
 use Rattle.jobrun.proofs.file_acts.acts_of.Goals as goal
 
-none_inside : (acts : List Act) (k : ℕ) → k < length acts → ◌≡◌ {A = Option Act} None (slice_get acts k) → ⊥
-none_inside acts k h e = let n = slice_get-get_or acts k Undo h in let z : ◌≡◌ {A = ℕ} 0 1 = cc in omega arith
+-- what stands at every place of a list, in order, is the list
+behind_first : {X : Type 0} (x : X) (xs : List X) (a n : ℕ) → filter_map (slice_get (x ∷ xs)) (range_with_len (suc a) n) ≡ filter_map (slice_get xs) (range_with_len a n)
+behind_first x xs a zero = refl
+behind_first x xs a (suc n) =
+    let next : suc a + 1 ≡ suc (a + 1) = omega arith in
+    rw next (ap (cons_option (slice_get xs a)) (behind_first x xs (a + 1) n))
 
--- one act more
-take_next : (acts : List Act) (k : ℕ) (a : Act) → k < length acts → Some a ≡ slice_get acts k → take k acts ++ a ∷ [] ≡ take (k + 1) acts
-take_next acts k a h e =
-    let n = slice_get-get_or acts k Undo h in
-    let same : a ≡ get_or acts k Undo = cc in
-    ap (λ x. take k acts ++ x ∷ []) same ∙ sym (take_more acts k Undo h)
-
-pub unreachable-requires : goal.unreachable-requires
-unreachable-requires c =
-    let acts = acts_of c.args.job.now.file.now in
-    let inside : c.loop-k.k < length acts = omega (arith, c.act_count-k-end.ensures) in
-    none_inside acts c.loop-k.k inside (c.in-None.ensures c.requires)
-
-pub loop-k-preserved : goal.loop-k-preserved
-loop-k-preserved c =
-    let acts = acts_of c.args.job.now.file.now in
-    let inside : c.loop-k.k < length acts = omega (arith, c.act_count-k-end.ensures) in
-    pushed (c.in-Some.act ∷ []) c.loop-k.invariant c.in_ok-push-in-Some.was c.push.ensures.items ∙ take_next acts c.loop-k.k c.in-Some.act inside (c.in-Some.ensures c.requires)
+each_place : {X : Type 0} (xs : List X) → filter_map (slice_get xs) (range_with_len 0 (length xs)) ≡ xs
+each_place [] = refl
+each_place (x ∷ xs) = ap (λ ys. x ∷ ys) (behind_first x xs 0 (length xs) ∙ each_place xs)
 
 pub returns : goal.returns
 returns c =
     let acts = acts_of c.args.job.now.file.now in
-    let all : length acts ≤ c.loop-k.k = omega (arith, c.act_count-k-end.ensures) in
-    c.loop-k.invariant ∙ take_all c.loop-k.k acts all
+    let count : c.act_count.result - 0 ≡ length acts = omega arith in
+    rw (each_place acts) at (items_from_collect _ c.collect.ensures.ran (YieldsList-from_filter_map _ (slice_get acts) (YieldsList-from_range 0 c.act_count.result (length acts) (cc) count) c.filter_map.ensures.closure (λ x r q k. search (rules, tests))))

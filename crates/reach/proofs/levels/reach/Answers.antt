@@ -1,17 +1,12 @@
-use Rattle.std.proofs.Common.{length, ap, ◌∙◌, arith}
-use Rattle.reach.proofs.Spread.{seeded_none, levelled}
+use Rattle.std.proofs.Common.{length, sym, ap, ◌∙◌, arith}
+use Rattle.std.proofs.lemmas.Grind.{common_steps}
+use Rattle.reach.proofs.Spread.{seeded_none, seeded_all}
 use Rattle.reach.proofs.levels.reach.Goals as goal
 
-pub seed-requires : goal.seed-requires
-seed-requires c =
-    record {
-      few = c.requires.ground.limits.nodes;
-      long = c.requires.lack;
-      none = seeded_none _ _ _ _ _ c.new-list.ensures.empty (ap length c.new-list.ensures.kept ∙ c.requires.queue) (omega (arith, c.forget.auto.distance, c.requires.distance)) (λ v l. c.forget.ensures v (omega (arith, c.requires.distance)));
-    }
+pub seed-requires-clause-none : goal.seed-requires-clause-none
+seed-requires-clause-none c =
+    seeded_none _ _ _ _ _ c.new-list.ensures.empty (ap length c.new-list.ensures.kept ∙ c.requires.queue ∙ sym c.requires.lack)
+    (c.fill.ensures.len ∙ c.requires.distance ∙ sym c.requires.lack) (λ v l. grind (arith, common_steps))
 
 pub spread-requires : goal.spread-requires
-spread-requires c = record { ground = c.requires.ground; front = c.seed.ensures.front _ _ }
-
-pub returns : goal.returns
-returns c = levelled c.seed.ensures c.spread.ensures
+spread-requires c = (seeded_all c.requires.lack c.seed.ensures).front _ _

@@ -1,12 +1,14 @@
-use Rattle.std.proofs.Common.{subst, arith}
+use Rattle.std.proofs.Common.{subst}
 use Rattle.reach.specs.Levels.{Finished}
-use Rattle.reach.proofs.Spread.{spreading_more, front_fits}
+use Rattle.reach.proofs.Read.{read_some, read_none}
+use Rattle.reach.proofs.Spread.{spreading_more, spreading_all}
 use Rattle.reach.proofs.levels.spread.Goals as goal
 
-pub loop-done-smaller : goal.loop-done-smaller
-loop-done-smaller c = omega (arith, c.loop-done-test.true, c.len.ensures, front_fits c.loop-done.invariant.front)
+pub loop-node-preserved : goal.loop-node-preserved
+loop-node-preserved c =
+    let read = read_some _ _ _ 0 c.loop-node.queue.fits _ c.in-Some.ensures in
+    spreading_more c.args.load.now.graph.limits c.loop-node.invariant read.inside c.visit.ensures.front c.visit.ensures.grown
+    (subst (Finished _ _ _) read.here c.visit.ensures.finished)
 
-pub loop-done-preserved : goal.loop-done-preserved
-loop-done-preserved c =
-    spreading_more c.requires.ground.limits c.loop-done.invariant (omega (arith, c.loop-done-test.true, c.len.ensures)) c.visit.ensures.front
-    c.visit.ensures.grown (subst (Finished _ _ _) c.node_at-node.ensures c.visit.ensures.finished)
+pub returns : goal.returns
+returns c = spreading_all c.loop-node.invariant (read_none _ _ _ 0 c.loop-node.queue.fits c.in_default.ensures)

@@ -1,8 +1,8 @@
-use Rattle.std.proofs.Common.{arith, length-set}
-use Rattle.series.specs.Load.{part_of, no_record}
-use Rattle.series.proofs.Kept.{mapped_more}
+use Rattle.std.proofs.Common.{rules}
+use Rattle.series.specs.Load.{KeepsPart}
+use Rattle.series.proofs.Kept.{keeps_all_by, parts_kept}
 use Rattle.series.proofs.load.kept_parts.Goals as goal
 
-pub loop-p-preserved : goal.loop-p-preserved
-loop-p-preserved c =
-    (simp length-set c.loop-p.invariant.0, mapped_more part_of c.loop-p.slots c.args.given.now c.loop-p.p no_record c.part_of.result (omega (arith, c.loop-p.invariant.0)) (omega arith) c.loop-p.invariant.1 c.part_of.ensures)
+pub returns : goal.returns
+returns c =
+    parts_kept c.args.n c.args.m c.args.given.now c.requires.0 c.keep_each.result (keeps_all_by _ (KeepsPart c.args.m) (λ k r o h. search rules) _ _ c.keep_each.ensures)

@@ -1,8 +1,8 @@
-use Rattle.std.proofs.Common.{refl, arith, length-set}
-use Rattle.series.specs.Sound.{no_sign}
-use Rattle.series.proofs.Kept.{copied_more}
+use Rattle.std.proofs.Common.{rules}
+use Rattle.series.specs.Load.{KeepsSign}
+use Rattle.series.proofs.Kept.{keeps_all_by, signs_kept}
 use Rattle.series.proofs.load.kept_signs.Goals as goal
 
-pub loop-s-preserved : goal.loop-s-preserved
-loop-s-preserved c =
-    (simp length-set c.loop-s.invariant.0, copied_more c.loop-s.slots c.args.given.now c.loop-s.s no_sign _ (omega (arith, c.loop-s.invariant.0)) (omega arith) c.loop-s.invariant.1 refl)
+pub returns : goal.returns
+returns c =
+    signs_kept c.args.m c.args.given.now c.requires.0 c.keep_each.result (keeps_all_by _ KeepsSign (λ k r o h. search rules) _ _ c.keep_each.ensures)

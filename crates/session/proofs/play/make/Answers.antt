@@ -5,39 +5,33 @@ use Rattle.sift.specs.Sifted.{Sifted}
 use Rattle.session.specs.Promise.{held}
 use Rattle.session.proofs.Steps.{laid, undone, sifted}
 use Rattle.session.proofs.play.make.Goals as goal
+use Rattle.session.proofs.play.make.Goals.{in-Lay, in-Undo, in-Sift}
 
-pub returns-in-Lay : goal.returns-in-Lay
-returns-in-Lay g c =
+pub returns : goal.returns
+returns g c =
     let m = g.N.Network.meaning c.args.layer.now.below in
     let es = entries_of c.args.layer.now.column in
-    let after = entries_of c.lay-answer.new.self.column in
-    let e = c.in-Lay.entry in
-    let r = c.lay-answer.result in
-    let s = lays_standing m e es after r c.lay-answer.ensures.lays c.requires in
-    let logged = laid m es after c.args.call e r c.in-Lay.is s.lays in
-    record { below = c.lay-answer.ensures.below; stands = s.stands; column = logged.column; answered = logged.answered }
-
-pub returns-in-Undo : goal.returns-in-Undo
-returns-in-Undo g c =
-    let m = g.N.Network.meaning c.args.layer.now.below in
-    let es = entries_of c.args.layer.now.column in
-    let after = entries_of c.undo-answer.new.self.column in
-    let r = c.undo-answer.result in
-    let logged = undone m es after c.args.call r c.in-Undo.is c.undo-answer.ensures.undoes in
-    record {
-      below = c.undo-answer.ensures.below;
-      stands = undoes_standing m es after r c.undo-answer.ensures.undoes c.requires;
-      column = logged.column;
-      answered = logged.answered;
-    }
-
-pub returns-in-Sift : goal.returns-in-Sift
-returns-in-Sift g c =
-    let m = g.N.Network.meaning c.args.layer.now.below in
-    let es = entries_of c.args.layer.now.column in
-    let b = c.in-Sift.buffers in
-    let s = c.sift_in-buffers.ensures in
-    let r = c.sift_in-buffers.result in
-    let under = subst (λ n. Sifted n (held b) (held r.0) r.1) (standing_net m es c.requires) s in
-    let logged = sifted m es es c.args.call b r.0 r.1 c.in-Sift.is refl under in
-    record { below = refl; stands = c.requires; column = logged.column; answered = logged.answered }
+    let call = c.args.turn.now.call in
+    elim c.match-turn.branch [
+      | in-Lay w ↦
+          let after = entries_of w.lay.new.self.column in
+          let e = w.in-Lay.entry in
+          let r = w.lay.result in
+          let s = lays_standing m e es after r w.lay.ensures.lays c.requires in
+          let logged = laid m es after call e r w.in-Lay.is s.lays in
+          rw (w.layer-is, w.turn-is, w.answer-is) (record { below = w.lay.ensures.below; stands = s.stands; column = logged.column; answered = logged.answered })
+      | in-Undo w ↦
+          let after = entries_of w.undo.new.self.column in
+          let r = w.undo.result in
+          let undoes = w.undo.ensures.undoes in
+          let logged = undone m es after call r w.in-Undo.is undoes in
+          rw (w.layer-is, w.turn-is, w.answer-is) (record { below = w.undo.ensures.below; stands = undoes_standing m es after r undoes c.requires; column = logged.column; answered = logged.answered })
+      | in-Sift w ↦
+          let after = entries_of c.args.layer.now.column in
+          let b = w.in-Sift.buffers in
+          let b' = w.sift_in.new.buffers in
+          let r = w.sift_in.result in
+          let under = subst (λ n. Sifted n (held b) (held b') r) (standing_net m es c.requires) w.sift_in.ensures in
+          let logged = sifted m es es call b b' r w.in-Sift.is refl under in
+          rw (w.layer-is, w.turn-is, w.answer-is) (record { below = refl; stands = c.requires; column = logged.column; answered = logged.answered })
+    ]

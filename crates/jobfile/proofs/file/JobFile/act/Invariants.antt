@@ -1,8 +1,6 @@
-use Rattle.std.proofs.Common.{◌≡◌, ◌-◌, ◌≤◌}
-use Rattle.std.specs.List.{slice_get, range_with_len, flat_map}
-use Rattle.layout.specs.Places.{block_count}
-use Rattle.jobfile.specs.Contents.{acts_of, acts_in, acts_from}
+use Rattle.std.proofs.Common.{◌≡◌, ◌+◌, length}
+use Rattle.jobfile.proofs.ActLists.{acts_before}
 use Rattle.jobfile.proofs.file.JobFile.act.Given as goal
 
-abbrev pub invariant-loop-b : goal.invariant-loop-b
-invariant-loop-b l = (acts_from l.self.file.now ≤ l.b) × (slice_get (acts_of l.self.file.now) l.k ≡ slice_get (flat_map (acts_in l.self.file.now) (range_with_len (l.b - acts_from l.self.file.now) (block_count l.self.file.now - l.b))) l.left)
+abbrev pub invariant-loop-a : goal.invariant-loop-a
+invariant-loop-a l = l.k ≡ length (acts_before l.self.file.now l.a) + l.left

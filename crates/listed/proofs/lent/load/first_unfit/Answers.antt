@@ -1,27 +1,26 @@
-use Rattle.std.proofs.Common.{sym, refl, subst, arith, below_more}
-use Rattle.std.proofs.lemmas.Bool.{false≢true}
+use Rattle.std.proofs.Common.{ℕ, ◌<◌, List, length, Some, None, Option, MatchOption, sym, subst, arith, rules}
+use Rattle.std.proofs.lemmas.Iterator.{IsFirst-from_position, YieldsList-from_slice}
+use Rattle.std.specs.List.{AllWithin, HoldsAt}
 use Rattle.network.specs.Net.{Fit}
-use Rattle.network.proofs.Records.{size_is, line_is}
+use Rattle.network.specs.Records.{net_of, line_of}
+use Rattle.network.specs.declared.line_record.LineRecord.{LineRecord}
+use Rattle.network.proofs.Records.{no_record, size_is, line_is}
+use Rattle.listed.specs.Load.{AllFit, FirstUnfit}
 use Rattle.listed.proofs.lent.load.first_unfit.Goals as goal
 
-pub returns-then-not-fits : goal.returns-then-not-fits
-returns-then-not-fits c =
-    let nodes = c.args.nodes in
-    let records = c.args.records.now in
-    let place = c.loop-place.place in
-    let inside = c.loop-place-test.true in
-    record {
-      inside = omega (arith, size_is nodes records, inside);
-      unfit = λ fit. false≢true (c.if-not-fits.ensures.1 (subst (Fit nodes) (line_is nodes records place) fit));
-      before = c.loop-place.invariant;
-    }
+module _ (nodes : ℕ) (records : List LineRecord) where
+  abbrev Fits : LineRecord → Type 0
+  Fits r = Fit nodes (line_of r)
 
-pub loop-place-preserved : goal.loop-place-preserved
-loop-place-preserved c =
-    let nodes = c.args.nodes in
-    let records = c.args.records.now in
-    let here = line_is nodes records c.loop-place.place in
-    below_more _ _ c.loop-place.invariant (subst (Fit nodes) (sym here) (c.if-not-fits.ensures.0 refl))
+  first_told : (r : Option ℕ) → MatchOption r (AllWithin Fits records 0 (length records)) (λ i. (i < length records) × HoldsAt (λ x. Fits x → ⊥) records i × AllWithin Fits records 0 i) → MatchOption r (AllFit (net_of nodes records)) (FirstUnfit (net_of nodes records))
+  first_told None all = λ k h. subst (Fit nodes) (sym (line_is nodes records k)) (all k no_record (omega arith) (omega (arith, size_is nodes records)))
+  first_told (Some i) h = record {
+    inside = omega (arith, size_is nodes records, h.0);
+    unfit = λ fit. h.1 no_record (subst (Fit nodes) (line_is nodes records i) fit);
+    before = λ k l. subst (Fit nodes) (sym (line_is nodes records k)) (h.2 k no_record (omega arith) l);
+  }
 
 pub returns : goal.returns
-returns c = λ k h. c.loop-place.invariant k (omega (arith, h, size_is c.args.nodes c.args.records.now))
+returns c =
+    let nodes = c.args.nodes in
+    first_told nodes c.args.records.now c.position.result (IsFirst-from_position _ _ c.position.result (λ r. Fits nodes c.args.records.now r → ⊥) (Fits nodes c.args.records.now) c.position.ensures.ran (YieldsList-from_slice c.args.records.now cc) (λ x q k. search rules) (λ x q k. search rules))

@@ -1,6 +1,0 @@
-use Rattle.std.proofs.Common.{arith}
-use Rattle.std.proofs.lemmas.List.Edits.{fill_by_more}
-use Rattle.circulation.proofs.start.clear.Goals as goal
-
-pub loop-v-preserved : goal.loop-v-preserved
-loop-v-preserved c = fill_by_more (λ _. 0) c.loop-v.amounts c.loop-v.v 0 (omega arith) c.loop-v.invariant
