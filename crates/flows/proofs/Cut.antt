@@ -1,10 +1,10 @@
 -- What a set of nodes takes in and gives out, summed over its nodes and over the lines at its border.
-use Rattle.std.proofs.Common.{◌≡◌, ℕ, ◌+◌, ◌<◌, ◌≤◌, Bool, true, cond, not, ◌&&◌, eqb, sym, refl, ap, ◌∙◌, arith}
+use Rattle.std.proofs.Common.{◌≡◌, ℕ, ◌+◌, ◌*◌, ◌<◌, ◌≤◌, Bool, true, cond, not, ◌&&◌, eqb, sym, refl, ap, ◌∙◌, arith}
 use Rattle.std.proofs.lemmas.Bool.{cond_both, eq-eqb, ne_eqb}
 use Rattle.network.specs.Sum.{upto}
 use Rattle.network.specs.Net.{Net, Line, Limits, size, line, tail, head}
 use Rattle.network.specs.Flow.{over, into, from, entering, leaving}
-use Rattle.flows.proofs.Sums.{upto_le, upto_but, upto_same, upto_add, upto_only, upto_swap, upto_cond}
+use Rattle.flows.proofs.Sums.{upto_le, upto_bound, upto_but, upto_same, upto_add, upto_only, upto_swap, upto_cond}
 
 cond_le : (b : Bool) (x y : ℕ) → (b ≡ true → x ≤ y) → cond b x 0 ≤ cond b y 0
 cond_le b x y h = grind arith
@@ -72,3 +72,10 @@ over_but g p f h l m e k =
       ap (λ b. cond b (f l) 0) e,
       ap (λ b. cond b (h l) 0) e,
     )
+
+-- amounts that are each at most x, summed over the lines that pass a test
+pub over_bound : (g : Net) (p : Line → Bool) (f : ℕ → ℕ) (x : ℕ) → ((i : ℕ) → i < size g → f i ≤ x) → over g p f ≤ size g * x
+over_bound g p f x h = upto_bound (size g) _ x (λ i l. at_most (p (line g i)) (f i) (h i l))
+  where
+    at_most : (b : Bool) (y : ℕ) → y ≤ x → cond b y 0 ≤ x
+    at_most b y k = grind arith

@@ -1,5 +1,5 @@
 -- Lawful flows: what enters a set leaves it, a bottleneck excludes them, and closed sets hold them to an amount.
-use Rattle.std.proofs.Common.{◌≡◌, ℕ, ◌+◌, ◌<◌, Bool, true, false, not, ◌&&◌, List, ap, subst, arith}
+use Rattle.std.proofs.Common.{◌≡◌, ℕ, ◌+◌, ◌<◌, ◌≤◌, Bool, true, false, not, ◌&&◌, List, sym, ap, ◌∙◌, subst, arith}
 use Rattle.std.proofs.lemmas.Bool.{and_from, and_parts, not-true, both_ways}
 use Rattle.network.specs.Net.{Net, Limits, size, line, tail, head, least, most}
 use Rattle.network.specs.Flow.{at, over, entering, leaving, Bottleneck, Lawful, Fixed, Free}
@@ -72,6 +72,20 @@ module _ (g : Net) (lim : Limits g) (f : List ℕ) (law : Lawful g f) (R : ℕ �
         leaves : leaving R (line g l) ≡ true
         leaves = and_from (R (tail (line g l))) (not (R (head (line g l)))) tl (ap not hd)
 
+-- a line at its most carries no more, and one at its least no less
+pub full : (g : Net) (l x : ℕ) → l < size g → most (line g l) ≤ x → AtMost g l x
+full g l x m h f law = omega (arith, law.high l m)
+
+pub bare : (g : Net) (l x : ℕ) → l < size g → x ≤ least (line g l) → AtLeast g l x
+bare g l x m h f law = omega (arith, law.low l m)
+
+pub fixed_between : (g : Net) (l x : ℕ) → AtMost g l x → AtLeast g l x → Fixed g l x
+fixed_between g l x above below f law = omega (arith, above f law, below f law)
+
 -- no line is both fixed at an amount and free from it
 pub exclusive : (g : Net) (l x : ℕ) → Fixed g l x → Free g l x → ⊥
 exclusive g l x fixed free = free.1.1 (fixed free.0 free.1.0)
+
+-- a line is fixed at one amount only, where there is a lawful flow
+pub fixed_once : (g : Net) (l x y : ℕ) (f : List ℕ) → Lawful g f → Fixed g l x → Fixed g l y → x ≡ y
+fixed_once g l x y f law p q = sym (p f law) ∙ q f law

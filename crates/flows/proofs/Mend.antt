@@ -1,5 +1,5 @@
 -- Mending a flow: a search that is stuck leaves a bottleneck, and a flow with nothing to spare is lawful.
-use Rattle.std.proofs.Common.{◌≡◌, ℕ, ◌+◌, ◌<◌, Bool, true, cond, List, refl, ap, ◌∙◌, arith}
+use Rattle.std.proofs.Common.{◌≡◌, ℕ, ◌+◌, ◌-◌, ◌<◌, Bool, true, cond, List, refl, ap, ◌∙◌, arith}
 use Rattle.std.proofs.lemmas.Bool.{cond_both}
 use Rattle.network.specs.Sum.{upto}
 use Rattle.network.specs.Net.{Net, Limits, size, line, least, most}
@@ -61,3 +61,8 @@ mended g lim f spare lack m none =
   where
     nothing : upto g.nodes lack ≡ 0
     nothing = lack_as_spare g lim (at f) spare lack m.balance ∙ upto_zero g.nodes spare none
+
+-- whatever the amounts, each node has to spare what enters beyond what leaves, and lacks what leaves beyond what enters
+pub balanced_start : (g : Net) (f : ℕ → ℕ)
+    → Balanced g f (λ v. over g (into v) f - over g (from v) f) (λ v. over g (from v) f - over g (into v) f)
+balanced_start g f v l = omega arith

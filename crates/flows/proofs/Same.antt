@@ -4,7 +4,7 @@ use Rattle.network.specs.Sum.{upto}
 use Rattle.network.specs.Net.{Net, Same, size, line, tail, head, least, most}
 use Rattle.network.specs.Flow.{at, over, demand, supply, Bottleneck, Lawful, Fixed, Free}
 use Rattle.flows.proofs.Sums.{upto_same}
-use Rattle.flows.proofs.Lawful.{exclusive}
+use Rattle.flows.proofs.Lawful.{fixed_once, exclusive}
 
 pub same_refl : (m : Net) → Same m m
 same_refl m =
@@ -23,6 +23,17 @@ module _ {m n : Net} (s : Same m n) where
         heads = λ k l. sym (s.heads k (back l));
         leasts = λ k l. sym (s.leasts k (back l));
         mosts = λ k l. sym (s.mosts k (back l));
+      }
+
+  pub same_trans : {o : Net} → Same n o → Same m o
+  same_trans t =
+      record {
+        nodes = s.nodes ∙ t.nodes;
+        count = s.count ∙ t.count;
+        tails = λ k l. s.tails k l ∙ t.tails k (omega (arith, s.count));
+        heads = λ k l. s.heads k l ∙ t.heads k (omega (arith, s.count));
+        leasts = λ k l. s.leasts k l ∙ t.leasts k (omega (arith, s.count));
+        mosts = λ k l. s.mosts k l ∙ t.mosts k (omega (arith, s.count));
       }
 
   -- sums over lines picked by their ends
@@ -65,3 +76,7 @@ module _ {m n : Net} (s : Same m n) (l : ℕ) where
   -- a line that is fixed in one is not free, from the amount of a lawful flow, in the other
   pub verdict_agree : (x : ℕ) (f : List ℕ) → Lawful n f → Fixed m l x → Free n l (at f l) → ⊥
   verdict_agree x f law p q = exclusive n l (at f l) (subst (Fixed n l) (sym (fixed_same x p f law)) (fixed_same x p)) q
+
+  -- where there is a lawful flow, a line that is fixed in both is fixed at one amount
+  pub fixed_agree : (x y : ℕ) (f : List ℕ) → Lawful m f → Fixed m l x → Fixed n l y → x ≡ y
+  fixed_agree x y f law p q = fixed_once n l x y f (lawful_same s f law) (fixed_same x p) q

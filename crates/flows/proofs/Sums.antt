@@ -104,3 +104,11 @@ count_more n k test more l e m h =
 -- a sum of nothing has nothing at any place
 pub upto_none : (n k : ℕ) (f : ℕ → ℕ) → upto n f ≡ 0 → k < n → f k ≡ 0
 upto_none n k f e l = omega (arith, upto_part n k f l)
+
+-- a wider test counts at least as much
+pub count_wider : (n : ℕ) (test more : ℕ → Bool) → ((i : ℕ) → i < n → test i ≡ true → more i ≡ true)
+    → count_upto n test ≤ count_upto n more
+count_wider n test more h = upto_le n (λ i. cond (test i) 1 0) (λ i. cond (more i) 1 0) (λ i l. wider (test i) (more i) (h i l))
+  where
+    wider : (a b : Bool) → (a ≡ true → b ≡ true) → cond {A = ℕ} a 1 0 ≤ cond {A = ℕ} b 1 0
+    wider a b k = grind arith
