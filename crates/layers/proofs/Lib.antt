@@ -1,3 +1,4 @@
+pub mod Determined
 pub mod Present
 pub mod Asked
 pub mod Standing

@@ -1,16 +1,24 @@
 -- Where each entry was accepted when it was laid, what the entries leave are the present bounds.
-use Rattle.std.proofs.Common.{◌≡◌, ℕ, List, [], ◌∷◌, ◌++◌, arith}
+use Rattle.std.proofs.Common.{◌≡◌, ℕ, false, eqb, List, [], ◌∷◌, ◌++◌, arith}
 use Rattle.std.proofs.lemmas.Bool.Decides.{nat_tests}
 use Rattle.std.proofs.lemmas.List.{map-append}
 use Rattle.std.proofs.lemmas.List.Elements.{filter-append}
-use Rattle.std.proofs.lemmas.List.Sums.{fold-append}
+use Rattle.std.proofs.lemmas.List.Sums.{fold-append, fold_push}
 use Rattle.layers.specs.Entries.{Inside}
-use Rattle.layers.specs.Narrow.{narrow}
+use Rattle.layers.specs.Narrow.{narrow, narrowed}
 use Rattle.layers.specs.Present.{present_of}
 use Rattle.layers.specs.declared.entry.Bound.{Bound}
 use Rattle.layers.specs.declared.entry.Bound.TheVariants.{AtLeast, AtMost}
 use Rattle.layers.specs.declared.entry.Bounds.{Bounds}
 use Rattle.layers.specs.declared.entry.Entry.{Entry}
+
+-- one entry more at the end
+pub narrowed_push : (place : ℕ) (b : Bounds) (es : List Entry) (e : Entry) → narrowed place b (es ++ e ∷ []) ≡ narrow place (narrowed place b es) e
+narrowed_push place b es e = fold_push (narrow place) b es e
+
+-- an entry on another line changes nothing
+pub narrow_off : (place : ℕ) (b : Bounds) (e : Entry) → eqb e.line place ≡ false → narrow place b e ≡ b
+narrow_off place b e off = grind (arith, nat_tests)
 
 -- one entry more is one more over those before it
 present_push : (b : Bounds) (es : List Entry) (e : Entry) (place : ℕ) → present_of b (es ++ e ∷ []) place ≡ present_of (present_of b es place) (e ∷ []) place
