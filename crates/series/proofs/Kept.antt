@@ -1,14 +1,20 @@
 -- What is kept of the records that a load is handed: of sound ones just what they say, and else the first fault.
-use Rattle.std.proofs.Common.{◌≡◌, ℕ, ◌<◌, ◌≤◌, List, map, length, take, Ok, Err, Result, MatchResult, sym, ◌∙◌, subst, ⊎_elim, arith, get_or-take, length-take}
+use Rattle.std.proofs.Common.{◌≡◌, ℕ, ◌<◌, ◌≤◌, List, map, length, get_or, take, Ok, Err, Result, MatchResult, sym, ap, ◌∙◌, subst, ⊎_elim, arith, get_or-take, length-take}
 use Rattle.std.proofs.lemmas.List.{ext_get_or, length-map, get_or-map, length-take-le}
 use Rattle.arrayvec.specs.ArrayVec.{ArrayVec}
 use Rattle.series.specs.Job.{no_part}
 use Rattle.series.specs.Load.{KeptFirst, RefusedFirst, KeepsAll, KeepsPart, KeepsSign, SoundParts, PartFault, SignFault, part_of, no_record}
-use Rattle.series.specs.Sound.{no_sign, SoundSigns}
+use Rattle.series.specs.Sound.{no_sign, SoundSign, SoundSigns}
 use Rattle.series.specs.declared.load.LoadRefusal.{LoadRefusal}
 use Rattle.series.specs.declared.records.Part.{Part}
 use Rattle.series.specs.declared.records.PartRecord.{PartRecord}
 use Rattle.series.specs.declared.records.SignRecord.{SignRecord}
+
+-- signs that begin with the same ones are as sound
+pub sound_kept : (m : ℕ) (from to : List SignRecord) → take m to ≡ take m from → SoundSigns from m → SoundSigns to m
+sound_kept m from to same sound s h =
+    let read = sym (get_or-take m from s no_sign h) ∙ ap (λ xs. get_or xs s no_sign) (sym same) ∙ get_or-take m to s no_sign h in
+    subst SoundSign read (sound s h)
 
 -- a rule that follows from another keeps the same
 pub keeps_all_by : {R T E : Type 0} (Gives Keeps : ℕ → R → Result T E → Type 0) → ((k : ℕ) (r : R) (o : Result T E) → Gives k r o → Keeps k r o) → (records : List R) (result : Result (ArrayVec T) E) → KeepsAll Gives records result → KeepsAll Keeps records result

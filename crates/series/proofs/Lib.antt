@@ -1,3 +1,4 @@
 pub mod Tally
+pub mod Masks
 pub mod Kept
 pub mod Roles
