@@ -7,7 +7,9 @@ use Rattle.network.specs.Net.{Net, Line, Fit, Limits, size, line, no_line}
 use Rattle.network.specs.Records.{line_of}
 use Rattle.network.specs.declared.line_record.LineRecord.{LineRecord}
 use Rattle.layers.specs.Entries.{bounds_of, bounded, bounds_under, net_under}
-use Rattle.layers.specs.Narrow.{narrow, narrowed}
+use Rattle.layers.specs.Narrow.{tightened, narrow, narrowed}
+use Rattle.layers.specs.declared.entry.Bound.{Bound}
+use Rattle.layers.specs.declared.entry.Bound.TheVariants.{AtLeast, AtMost}
 use Rattle.layers.specs.declared.entry.Bounds.{Bounds}
 use Rattle.layers.specs.declared.entry.Entry.{Entry}
 use Rattle.layers.specs.Under.{size_bounded, line_bounded}
@@ -42,6 +44,10 @@ pub record Narrower (b outer : Bounds) : Type 0 where
   pub low : outer.least ≤ b.least
   pub ordered : b.least ≤ b.most
   pub high : b.most ≤ outer.most
+
+tightened_narrower : (kind : Bound) (x : ℕ) (b outer : Bounds) → Narrower b outer → b.least ≤ x → x ≤ b.most → Narrower (tightened kind x b) outer
+tightened_narrower AtLeast x b outer h low high = record { low = omega (arith, h.low); ordered = high; high = h.high }
+tightened_narrower AtMost x b outer h low high = record { low = h.low; ordered = low; high = omega (arith, h.high) }
 
 narrow_narrower : (place : ℕ) (b outer : Bounds) (e : Entry) → Narrower b outer → Narrower (narrow place b e) outer
 narrow_narrower place b outer e h = record {
