@@ -1,10 +1,11 @@
 -- The search from the lacking nodes to its end.
 use Rattle.std.proofs.Common.{◌≡◌, ℕ, ◌+◌, ◌<◌, ◌≤◌, List, [], length, get_or, set, sym, ap, ◌∙◌, subst, inl, inr, arith, below_more}
 use Rattle.std.proofs.lemmas.List.{get_or-set_other}
-use Rattle.std.proofs.lemmas.Bool.{cases_eq}
+use Rattle.std.proofs.lemmas.Bool.{cases_eq, cases_lt}
 use Rattle.network.specs.Net.{Net, Limits, line, tail, head}
 use Rattle.network.specs.Records.{net_of}
-use Rattle.reach.specs.Levels.{level, Near, Finished}
+use Rattle.flows.proofs.Sums.{count_le}
+use Rattle.reach.specs.Levels.{level, Near, near, Finished, Levelled}
 use Rattle.reach.specs.Search.{Front, Grown, Seeded, Spreading}
 use Rattle.reach.proofs.Front.{front_none, front_more, front_room, level_new, grown_none, grown_then}
 
@@ -96,3 +97,25 @@ pub spreading_all : {g : Net} {f : ℕ → ℕ} {cells : List ℕ} {count : ℕ}
     → Spreading g f cells count distance done cells' count' distance' → count' ≤ done → Spreading g f cells count distance count' cells' count' distance'
 spreading_all {g} {f} {cells} {count} {distance} {done} {cells'} {count'} {distance'} now past =
     subst (λ n. Spreading g f cells count distance n cells' count' distance') (omega (arith, now.inside)) now
+
+-- the queue never holds more than all the nodes
+pub front_fits : {g : Net} {f : ℕ → ℕ} {cells : List ℕ} {count : ℕ} {distance : List ℕ} → Front g f cells count distance → count ≤ g.nodes
+front_fits {g} {f} {cells} {count} {distance} front = omega (arith, front.counted, count_le g.nodes (near g distance))
+
+-- what the search has come to when all reached nodes are visited
+pub levelled : {g : Net} {f lack : ℕ → ℕ} {cells : List ℕ} {count : ℕ} {distance cells' : List ℕ} {count' : ℕ} {distance' : List ℕ}
+    → Seeded g.nodes lack g.nodes cells count distance → Spreading g f cells count distance count' cells' count' distance' → Levelled g f lack distance'
+levelled {g} {f} {lack} {cells} {count} {distance} {cells'} {count'} {distance'} seeds now =
+    record {
+      lacking = λ v l some. let zero = seeds.lacking v l some in omega (arith, now.grown.levels v l (omega arith));
+      down =
+          λ v l near none.
+          elim (cases_lt 0 (level distance' v)) [
+            | inl some ↦ now.front.down v l near some
+            | inr zero ↦ absurd (omega (arith, seeds.zeros v l (now.grown.zeros v l (omega arith))))
+          ];
+      finished =
+          λ v l near.
+          let q = now.front.queued v l near in
+          subst (Finished g f distance') q.here (now.finished q.place q.below);
+    }

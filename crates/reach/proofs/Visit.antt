@@ -9,9 +9,9 @@ use Rattle.index.specs.declared.graph.Graph.{Graph}
 use Rattle.index.specs.declared.step.Step.{Step}
 use Rattle.reach.specs.Room.{room_of, reversed}
 use Rattle.reach.specs.Levels.{level, Near, Down, Finished}
-use Rattle.reach.specs.Search.{Tried, RowTried, Visiting}
+use Rattle.reach.specs.Search.{Front, Tried, RowTried, Visiting}
 use Rattle.reach.proofs.Steps.{leaves_reversed, target_reversed, target_inside, row_leaves, row_complete}
-use Rattle.reach.proofs.Front.{front_more, grown_one, grown_then, front_room, level_new, level_kept}
+use Rattle.reach.proofs.Front.{front_more, grown_one, grown_none, grown_then, front_room, level_new, level_kept}
 
 -- a node is finished once all the steps of its row are tried
 pub finished_row : (graph : Graph) {f : ℕ → ℕ} {distance : List ℕ} {v k : ℕ} → v < graph.nodes → length (row_of graph v) ≤ k → RowTried graph f distance v k
@@ -24,6 +24,12 @@ finished_row graph {f} {distance} {v} {k} node all tried =
   where
     back : (s : Step) → Leaves (net graph) v s → Tried (net graph) f distance s
     back s h = let st = row_complete graph v node s h in subst (Tried (net graph) f distance) st.here (tried st.place (omega (arith, st.below)))
+
+-- nothing is tried when the visit begins
+pub visiting_none : (graph : Graph) (f : ℕ → ℕ) (v : ℕ) (cells : List ℕ) (count : ℕ) (distance : List ℕ)
+    → Front (net graph) f cells count distance → Visiting graph f v cells count distance 0 cells count distance
+visiting_none graph f v cells count distance front =
+    record { front = front; grown = grown_none (net graph) cells count distance; tried = λ j l h. absurd (omega arith) }
 
 module _ {graph : Graph} {f : ℕ → ℕ} {v : ℕ} {cells : List ℕ} {count : ℕ} {distance : List ℕ} {k : ℕ} {cells' : List ℕ} {count' : ℕ} {distance' : List ℕ}
     (now : Visiting graph f v cells count distance k cells' count' distance') (node : v < graph.nodes) {row : List Step} (is : row ≡ row_of graph v) (below : k < length row)
