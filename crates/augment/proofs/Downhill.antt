@@ -1,5 +1,6 @@
 -- A walk under way: a step down, a step back, and why it ends.
-use Rattle.std.proofs.Common.{◌≡◌, ℕ, ◌+◌, ◌-◌, ◌*◌, ◌<◌, ◌≤◌, List, set, Some, None, sym, ap, ◌∙◌, subst, arith}
+use Rattle.std.proofs.Common.{◌≡◌, ℕ, ◌+◌, ◌-◌, ◌*◌, ◌<◌, ◌≤◌, List, length, set, Some, None, sym, ap, ◌∙◌, subst, arith}
+use Rattle.network.specs.Net.{size}
 use Rattle.flows.specs.Bounds.{Within}
 use Rattle.index.specs.Graph.{net}
 use Rattle.index.specs.Rows.{Leaves, step_at}
@@ -11,7 +12,7 @@ use Rattle.index.proofs.Found.{indexed, row_inside}
 use Rattle.augment.specs.Cursors.{place, row_end, ahead, Cursors, Fresh, Advanced}
 use Rattle.augment.specs.Walks.{Walk, Behind, Retraceable, TakenBack, Descending}
 use Rattle.augment.proofs.Cursors.{cursors_set, ahead_set, fresh_set, fresh_found, place_set}
-use Rattle.augment.proofs.Walks.{walk_cursor, walk_more, walk_less}
+use Rattle.augment.proofs.Walks.{walk_cursor, walk_room, walk_more, walk_less}
 
 module _ {graph : Graph} {f : ℕ → ℕ} {distance cursor : List ℕ} {lack : ℕ → ℕ} {a : ℕ} {cursor' : List ℕ} {b : ℕ} {cells : List Step} {count : ℕ}
     (now : Descending graph f lack distance cursor a cursor' b cells count) (bounds : Within (net graph) f) (near : Near (net graph) distance a)
@@ -40,6 +41,12 @@ module _ {graph : Graph} {f : ℕ → ℕ} {distance cursor : List ℕ} {lack : 
 
       leads : LeadsDown (net graph) f distance b s
       leads = subst (LeadsDown (net graph) f distance b) (sym adv.stands.here) (adv.sought.found adv.stands.below)
+
+      pub descent_inside : s.line < size (net graph)
+      descent_inside = leaves.inside
+
+      pub descent_room : count < length cells
+      descent_room = walk_room now.walk s leads near
 
       pub descent_more : Descending graph f lack distance cursor a cursor'' (target (net graph) s) (set cells count s) (count + 1)
       descent_more =

@@ -1,5 +1,5 @@
 -- Pushing along a walk, step by step and whole.
-use Rattle.std.proofs.Common.{◌≡◌, ℕ, ◌+◌, ◌-◌, ◌<◌, ◌≤◌, true, false, List, length, set, sym, ap, ◌∙◌, subst, arith}
+use Rattle.std.proofs.Common.{◌≡◌, ℕ, ◌+◌, ◌-◌, ◌<◌, ◌≤◌, true, false, List, length, set, sym, ap, ◌∙◌, subst, arith, below_more}
 use Rattle.std.proofs.lemmas.List.{get_or-set_same}
 use Rattle.network.specs.Net.{Net, size}
 use Rattle.network.specs.Flow.{at}
@@ -15,8 +15,12 @@ use Rattle.reach.specs.Room.{step_of, room_of}
 use Rattle.reach.proofs.Read.{Read}
 use Rattle.reach.proofs.Renamed.{renamed}
 use Rattle.augment.specs.Walks.{trodden}
-use Rattle.augment.specs.Pushes.{Passable, Pushed}
+use Rattle.augment.specs.Pushes.{Narrowest, Passable, Pushed}
 use Rattle.augment.proofs.Room.{has_room, room_from}
+
+-- a bound on the line of a step, at the step as it was read
+pub line_below : (s t : Step) (n : ℕ) → s ≡ t → t.line < n → s.line < n
+line_below s t n e l = subst (λ (x : Step). x.line < n) (sym e) l
 
 -- one step of a push, at the step as it was read
 module _ {amount : ℕ} {flow : List ℕ} {cells : List Step} {count : ℕ} (pass : Passable amount flow (trodden cells count)) {k : ℕ} {h : List ℕ}
@@ -37,6 +41,30 @@ module _ {amount : ℕ} {flow : List ℕ} {cells : List Step} {count : ℕ} (pas
 
   pub carry_next : {h' : List ℕ} → h' ≡ flows.put (step_of step) amount h → h' ≡ flows.pushed (trodden cells (k + 1)) amount flow
   carry_next p = p ∙ ap (λ s. flows.put (step_of s) amount h) read.here ∙ push_next amount flow (λ j. step_of (step_at cells j)) k h e
+
+-- the narrowest step, one step more at a time
+pub narrowest_none : (g : Net) (f : ℕ → ℕ) (cells : List Step) (limit : ℕ) → Narrowest g f cells 0 limit limit
+narrowest_none g f cells limit = record { most = omega arith; rooms = λ k l. absurd (omega arith); some = λ h _. h }
+
+module _ {g : Net} {f : ℕ → ℕ} {cells : List Step} {k limit amount : ℕ} (now : Narrowest g f cells k limit amount) where
+  pub narrowest_keeps : amount ≤ room_of g f (step_at cells k) → Narrowest g f cells (k + 1) limit amount
+  narrowest_keeps h =
+      record {
+        most = now.most;
+        rooms = below_more (λ j. amount ≤ room_of g f (step_at cells j)) k now.rooms h;
+        some = λ p q. now.some p (λ j l. q j (omega arith));
+      }
+
+  pub narrowest_takes : (x : ℕ) → x ≡ room_of g f (step_at cells k) → x < amount → Narrowest g f cells (k + 1) limit x
+  narrowest_takes x e h =
+      record {
+        most = omega (arith, now.most);
+        rooms = below_more (λ j. x ≤ room_of g f (step_at cells j)) k (λ j l. omega (arith, now.rooms j l)) (omega arith);
+        some = λ p q. omega (arith, q k (omega arith));
+      }
+
+  pub narrowest_all : {count : ℕ} → k ≡ count → Narrowest g f cells count limit amount
+  narrowest_all e = subst (λ n. Narrowest g f cells n limit amount) e now
 
 -- the steps of a trail go over lines of the network, and have room
 module _ (g : Net) (f : ℕ → ℕ) (a b : ℕ) (cells : List Step) (count : ℕ) (t : Trail g 1 f a b (trodden cells count)) where
