@@ -37,6 +37,10 @@ ends_more g end k xs inside sums v l =
           )
     ]
 
+pub gathered_none : (g : Net) (entered left : List ℕ) → ((v : ℕ) → v < g.nodes → at entered v ≡ 0) → ((v : ℕ) → v < g.nodes → at left v ≡ 0)
+    → Gathered g 0 entered left
+gathered_none g entered left p q = record { heads = p; tails = q }
+
 module _ {g : Net} {k : ℕ} {entered left : List ℕ} (now : Gathered g k entered left) where
   -- the line at place k adds its least at both ends, and there is room for it
   module _ (lim : Limits g) (inside : k < size g) (v x : ℕ) (amount : least (line g k) ≡ x) where

@@ -1,12 +1,21 @@
 -- Sums over the first lines of a network.
-use Rattle.std.proofs.Common.{◌≡◌, ℕ, ◌+◌, ◌<◌, ◌≤◌, Bool, true, false, cond, arith}
+use Rattle.std.proofs.Common.{◌≡◌, ℕ, ◌+◌, ◌<◌, ◌≤◌, Bool, true, false, cond, ap, arith}
 use Rattle.network.specs.Net.{Net, Line, Limits, size, line, most}
 use Rattle.network.proofs.Counting.{upto_more}
 use Rattle.flows.proofs.Sums.{upto_bound}
 use Rattle.circulation.specs.Summed.{summed}
 
 module _ (g : Net) (value : Line → ℕ) (test : Line → Bool) (k : ℕ) where
-  -- one line more
+  -- one line more, which passes the test or does not
+  pub summed_yes : test (line g k) ≡ true → summed g value test (k + 1) ≡ summed g value test k + value (line g k)
+  summed_yes e =
+      omega (arith, upto_more k (λ i. cond (test (line g i)) (value (line g i)) 0), ap (λ b. cond b (value (line g k)) 0) e)
+
+  pub summed_no : test (line g k) ≡ false → summed g value test (k + 1) ≡ summed g value test k
+  summed_no e =
+      omega (arith, upto_more k (λ i. cond (test (line g i)) (value (line g i)) 0), ap (λ b. cond b (value (line g k)) 0) e)
+
+  -- the same at once
   pub summed_more : {x : ℕ} → x ≡ cond (test (line g k)) (value (line g k)) 0 → {sum : ℕ} → sum ≡ summed g value test k → sum + x ≡ summed g value test (k + 1)
   summed_more e now = omega (arith, upto_more k (λ i. cond (test (line g i)) (value (line g i)) 0))
 
