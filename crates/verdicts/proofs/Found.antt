@@ -1,8 +1,9 @@
 -- A node is found: it is marked, and listed unless it was marked before.
-use Rattle.std.proofs.Common.{◌≡◌, ℕ, ◌+◌, ◌<◌, Bool, true, cond, ◌||◌, eqb, ltb, List, length, get_or, set, sym, refl, ap, ◌∙◌, subst, inl, inr, arith, below_more}
+use Rattle.std.proofs.Common.{◌≡◌, ℕ, ◌+◌, ◌<◌, Bool, true, false, cond, ◌||◌, eqb, ltb, List, length, get_or, set, sym, refl, ap, ◌∙◌, subst, inl, inr, arith, below_more}
 use Rattle.std.proofs.lemmas.List.{length-set, get_or-set_same, get_or-set_other}
 use Rattle.std.proofs.lemmas.Bool.{and_parts, or_cases, or_left, or_right, eq-eqb, eqb-true, ltb-true, lt-ltb, cond-true}
-use Rattle.buffers.specs.Marks.{marked, blanks}
+use Rattle.std.proofs.lemmas.Bool.Decides.{nat_tests}
+use Rattle.buffers.specs.Marks.{marked, blank, blanks}
 use Rattle.buffers.proofs.Blanks.{marked_mark}
 use Rattle.verdicts.specs.Search.{Found, Listed, Adds, reached}
 
@@ -19,7 +20,10 @@ same_found t u nodes bytes cells len =
 pub marked_inside : (s : Found) (v : ℕ) {nodes : ℕ} → s.nodes ≡ nodes → reached s v ≡ true → v < nodes
 marked_inside s v nodes e = omega (arith, ltb-true v s.nodes (and_parts (ltb v s.nodes) _ e).0)
 
--- node v marked and listed
+-- node v marked, and listed too
+abbrev pub marking : Found → ℕ → Found
+marking s v = record { nodes = s.nodes; bytes = set s.bytes v 1; cells = s.cells; len = s.len }
+
 abbrev pub listing : Found → ℕ → Found
 listing s v = record { nodes = s.nodes; bytes = set s.bytes v 1; cells = set s.cells s.len v; len = s.len + 1 }
 
@@ -63,6 +67,32 @@ module _ (s : Found) (listed : Listed s) (v : ℕ) (inside : v < s.nodes) where
       stays : (k : ℕ) → k < s.len → get_or (set s.cells s.len v) k 0 ≡ get_or s.cells k 0
       stays k h = get_or-set_other s.cells s.len k v 0 (omega arith)
 
+  pub adds_old : blanks (set s.bytes v 1) s.nodes ≡ blanks s.bytes s.nodes → blank s.bytes s.nodes v ≡ false → Adds v s (marking s v)
+  adds_old same marks =
+      record {
+        nodes = refl;
+        listed =
+            record {
+              marks = length-set s.bytes v 1 ∙ listed.marks;
+              places = listed.places;
+              once = omega (arith, listed.once);
+              marked = λ k h. marks_it _ ∙ or_right (eqb _ v) _ (listed.marked k h);
+              listed = λ w e.
+                  let before =
+                  listed.listed w
+                  (elim (or_cases (eqb w v) (reached s w) (sym (marks_it w) ∙ e))
+                  [ inl is ↦ ap (reached s) (eqb-true w v is) ∙ was | inr is ↦ is ])
+                  in
+                  record { place = before.place; below = before.below; here = before.here };
+            };
+        found = marks_it;
+        longer = omega arith;
+        kept = λ k h. refl;
+      }
+    where
+      was : reached s v ≡ true
+      was = grind (arith, nat_tests)
+
   -- the same as the marks and the list tell it: whether the node was blank, and whether there was a place for it
   module _ (t : Found) (fresh : Bool) (nodes : t.nodes ≡ s.nodes)
       (written : t.bytes ≡ cond (ltb v s.nodes) (set s.bytes v 1) s.bytes)
@@ -81,3 +111,9 @@ module _ (s : Found) (listed : Listed s) (v : ℕ) (inside : v < s.nodes) where
           let places : ok ≡ true = room ∙ lt-ltb s.len (length s.cells) (omega (arith, listed.once, listed.places)) in
           let same = same_found t (listing s v) nodes bytes_are (cells ∙ cond-true _ _ _ places) (len ∙ cond-true _ _ _ places) in
           subst (Adds v s) (sym same) (adds_new less)
+
+      pub told_old : fresh ≡ blank s.bytes s.nodes v → fresh ≡ false → t.len ≡ s.len → t.cells ≡ s.cells → Adds v s t
+      told_old blank-is e len cells =
+          let less = fewer_are false e in
+          let same = same_found t (marking s v) nodes bytes_are cells len in
+          subst (Adds v s) (sym same) (adds_old (omega arith) (sym blank-is ∙ e))

@@ -7,7 +7,7 @@ use Rattle.flows.specs.Trails.{Spread}
 use Rattle.flows.proofs.Trails.{spread_more, stays_wider}
 use Rattle.index.specs.Steps.{origin, target}
 use Rattle.index.specs.declared.step.Step.{Step}
-use Rattle.verdicts.specs.Search.{Adds, Found, Grows, passable, reached}
+use Rattle.verdicts.specs.Search.{Adds, Found, Grows, Listed, passable, reached}
 use Rattle.verdicts.proofs.Rows.{passable_other, passable_room}
 
 -- a node that is found is reached, a node reached before is reached still, and no other is
@@ -43,6 +43,10 @@ module _ (g : Net) (f : List ℕ) (avoid : ℕ) where
             spread_more (reached s) (reached t) spread (step.line, step.direction) inside (passable_other g f avoid step may)
             (passable_room g f avoid step may) from new (adds_it adds) (adds_other adds)
       ]
+
+  pub grows_none : (s : Found) → Listed s → Grows g f avoid s s
+  grows_none s listed =
+      record { nodes = refl; listed = listed; wider = λ v e. e; longer = omega arith; kept = λ k h. refl; spread = λ a h. h }
 
   pub grows_then : {s t u : Found} → Grows g f avoid s t → Grows g f avoid t u → Grows g f avoid s u
   grows_then a b =

@@ -9,8 +9,8 @@ use Rattle.index.specs.Rows.{Leaves, step_at}
 use Rattle.index.specs.Steps.{target}
 use Rattle.index.specs.declared.graph.Graph.{Graph}
 use Rattle.index.specs.declared.step.Step.{Step}
-use Rattle.verdicts.specs.Search.{Adds, Found, found, Finished, Grows, passable, reached}
-use Rattle.verdicts.proofs.Growth.{adds_it, adds_other, grows_then, grows_adds}
+use Rattle.verdicts.specs.Search.{Adds, Found, found, Finished, Grows, Listed, passable, reached}
+use Rattle.verdicts.proofs.Growth.{adds_it, adds_other, grows_none, grows_then, grows_adds}
 use Rattle.verdicts.proofs.Rows.{row_complete}
 
 -- the memory is still the lender's
@@ -30,6 +30,9 @@ Underway g f avoid sought row k marks list marks' list' =
     Kept marks list marks' list' × Visiting g f avoid sought row k (found marks list) (found marks' list')
 
 module _ {g : Net} {f : List ℕ} {avoid sought : ℕ} {row : List Step} {s : Found} where
+  pub visiting_none : Listed s → reached s sought ≡ false → Visiting g f avoid sought row 0 s s
+  visiting_none listed unseen = record { grows = grows_none g f avoid s listed; unseen = unseen; passed = λ j below. absurd (omega arith) }
+
   module _ {t : Found} {k : ℕ} (visiting : Visiting g f avoid sought row k s t) where
     -- a step that the search may not take
     pub visiting_past : false ≡ passable g f avoid (step_at row k) → Visiting g f avoid sought row (k + 1) s t

@@ -14,7 +14,7 @@ use Rattle.buffers.specs.declared.marks.Marks.{Marks}
 use Rattle.buffers.specs.declared.places.Places.{Places}
 use Rattle.index.specs.Steps.{along, against}
 use Rattle.verdicts.specs.Search.{Found, found, Finished, Grows, Listed, Visits, node_at, reached}
-use Rattle.verdicts.proofs.Growth.{grows_then}
+use Rattle.verdicts.proofs.Growth.{grows_none, grows_then}
 use Rattle.verdicts.proofs.Visit.{Kept}
 
 -- the list holds no more nodes than it has places
@@ -52,6 +52,11 @@ pub record Searching (g : Net) (f : List ℕ) (avoid sought read : ℕ) (s t : F
 abbrev pub Underway : Net → List ℕ → ℕ → ℕ → ℕ → Marks → Places ℕ → Marks → Places ℕ → Type 0
 Underway g f avoid sought read marks list marks' list' =
     Kept marks list marks' list' × Searching g f avoid sought read (found marks list) (found marks' list')
+
+pub searching_none : (g : Net) (f : List ℕ) (avoid sought : ℕ) (s : Found) → Listed s → reached s sought ≡ false
+    → Searching g f avoid sought 0 s s
+searching_none g f avoid sought s listed unseen =
+    record { grows = grows_none g f avoid s listed; unseen = unseen; listed = omega arith; finished = λ k h. absurd (omega arith) }
 
 -- a node is visited
 module _ {g : Net} {f : List ℕ} {avoid sought read : ℕ} {s t u : Found}
