@@ -3,10 +3,11 @@ use Rattle.std.proofs.Common.{◌≡◌, ℕ, ◌<◌, ◌⊎◌, List, length, 
 use lib.ListN.{length-replicate}
 use Rattle.std.proofs.lemmas.List.{take_all}
 use Rattle.network.specs.Net.{Net, Limits, size}
-use Rattle.network.specs.Flow.{Bottleneck, demand, supply}
+use Rattle.network.specs.Flow.{Lawful, Bottleneck, demand, supply}
 use Rattle.flows.proofs.Lawful.{bottleneck_excludes}
+use Rattle.verdicts.specs.Verdicts.{Verdicts}
 use Rattle.sift.specs.Workspace.{Workspace, Cleared, no_step}
-use Rattle.sift.specs.Sifted.{Refused, shown}
+use Rattle.sift.specs.Sifted.{Accepted, Refused, shown}
 
 -- a whole list is its own front
 whole : {X : Type 0} (n : ℕ) (xs : List X) → length xs ≡ n → take n xs ≡ xs
@@ -20,6 +21,10 @@ resized x k n e = ap (λ j. replicate j x) e
 
 pub cleared_exact : (g : Net) (w : Workspace) → w.marks ≡ replicate g.nodes 0 → w.nodes ≡ replicate g.nodes 0 → w.steps ≡ replicate g.nodes no_step → Cleared g w
 cleared_exact g w m n s = record { marks = blank _ _ _ m; nodes = blank _ _ _ n; steps = blank _ _ _ s }
+
+pub accepted_exact : (g : Net) (w : Workspace) → Lawful g w.flow → Verdicts g w.flow w.verdicts → w.bottleneck ≡ replicate g.nodes 0 → Accepted g w
+accepted_exact g w law told b =
+    record { lawful = subst (Lawful g) (sym (whole (size g) w.flow law.long)) law; verdicts = told; bottleneck = blank _ _ _ b }
 
 pub refused_exact : (g : Net) → Limits g → (w : Workspace) (d s : ℕ) → length w.bottleneck ≡ g.nodes
     → ((v : ℕ) → v < g.nodes → (get_or w.bottleneck v 0 ≡ 0) ⊎ (get_or w.bottleneck v 0 ≡ 1))

@@ -10,13 +10,19 @@ use Rattle.sift.specs.declared.refusal.SiftRefusal.{SiftRefusal}
 use Rattle.sift.specs.declared.refusal.SiftRefusal.TheVariants.{Short as TooShort, NoFlow}
 
 -- the part that a network needs is the same in both
-record Agree (g : Net) (v w : Workspace) : Type 0 where
+pub record Agree (g : Net) (v w : Workspace) : Type 0 where
   pub flow : take (size g) v.flow ≡ take (size g) w.flow
   pub verdicts : take (size g) v.verdicts ≡ take (size g) w.verdicts
   pub bottleneck : take g.nodes v.bottleneck ≡ take g.nodes w.bottleneck
   pub marks : take g.nodes v.marks ≡ take g.nodes w.marks
   pub nodes : take g.nodes v.nodes ≡ take g.nodes w.nodes
   pub steps : take g.nodes v.steps ≡ take g.nodes w.steps
+
+-- memory that is long enough everywhere is not short
+pub not_short : (g : Net) (w : Workspace) → size g ≤ length w.flow → size g ≤ length w.verdicts → g.nodes ≤ length w.bottleneck
+    → g.nodes ≤ length w.marks → g.nodes ≤ length w.nodes → g.nodes ≤ length w.steps → Short g w → ⊥
+not_short g w f v b m n s =
+    ⊎_elim (λ h. omega arith) (⊎_elim (λ h. omega arith) (⊎_elim (λ h. omega arith) (⊎_elim (λ h. omega arith) (⊎_elim (λ h. omega arith) (λ h. omega arith)))))
 
 -- each of the six is long enough
 pub record Enough (g : Net) (w : Workspace) : Type 0 where
@@ -46,10 +52,10 @@ enough_from g w roomy =
 abbrev pub rejoined : {X : Type 0} → ℕ → List X → List X → List X
 rejoined n part xs = part ++ drop n xs
 
-front_agrees : {X : Type 0} (n k : ℕ) (part xs : List X) → length part ≡ k → n ≡ k → take k part ≡ take k (rejoined n part xs)
+pub front_agrees : {X : Type 0} (n k : ℕ) (part xs : List X) → length part ≡ k → n ≡ k → take k part ≡ take k (rejoined n part xs)
 front_agrees n k part xs long e = sym (take-append-le k part (drop n xs) (omega arith))
 
-rest_kept : {X : Type 0} (n k : ℕ) (part xs : List X) → length part ≡ k → n ≡ k → drop k (rejoined n part xs) ≡ drop k xs
+pub rest_kept : {X : Type 0} (n k : ℕ) (part xs : List X) → length part ≡ k → n ≡ k → drop k (rejoined n part xs) ≡ drop k xs
 rest_kept n k part xs long e = subst (λ i. drop k (part ++ drop i xs) ≡ drop k xs) (sym e) (drop_at part (drop k xs) k long)
 
 -- a place of the front is the same in both
@@ -87,7 +93,7 @@ module _ (g : Net) (v w : Workspace) (e : Agree g v w) where
         verdicts = sym e.verdicts ∙ r.verdicts;
       }
 
-  lifted : (before : Workspace) → (Short g before → ⊥) → SurplusKept g before w → (r : Result (Unit {0}) SiftRefusal) → Done g v r → Sifted g before w r
+  pub lifted : (before : Workspace) → (Short g before → ⊥) → SurplusKept g before w → (r : Result (Unit {0}) SiftRefusal) → Done g v r → Sifted g before w r
   lifted before enough kept (Ok _) d =
       record { enough = enough; answer = accepted_lifts d.0; cleared = cleared_lifts d.1; surplus = kept }
   lifted before enough kept (Err TooShort) d = absurd d
