@@ -1,7 +1,7 @@
 -- A part of a byte string: its bytes, and whether they are zero.
-use Rattle.std.proofs.Common.{◌≡◌, ℕ, ◌+◌, ◌-◌, ◌<◌, Bool, true, List, length, drop, Decides, sym, ◌∙◌, subst, ⊎_elim, arith, length-take, get_or-take, ◌==◌}
+use Rattle.std.proofs.Common.{◌≡◌, ℕ, ◌+◌, ◌-◌, ◌<◌, min, Bool, true, List, length, take, drop, Decides, sym, ap, ◌∙◌, subst, ⊎_elim, arith, length-take, length-drop, get_or-take, ◌==◌}
 use Rattle.std.specs.List.{list_all}
-use Rattle.std.proofs.lemmas.List.{get_or-drop, get_or_past}
+use Rattle.std.proofs.lemmas.List.{get_or-drop, get_or_past, take_all, drop_all}
 use Rattle.std.proofs.lemmas.List.Sums.{AllPass-from_list_all, list_all-from_AllPass}
 use Rattle.std.proofs.lemmas.List.Elements.{All-get_or, All-from_get_or}
 use Rattle.std.proofs.lemmas.Bool.{cases_lt, eqb-true, eq-eqb}
@@ -29,3 +29,17 @@ zeros_told from to bytes r is =
           let inside : k < to - from = omega (arith, length-take {A = ℕ}) in
           eq-eqb (byte_at part k) 0 (part_at_byte (to - from) from bytes k inside ∙ zeros (from + k) (omega arith) (omega arith)))),
     )
+
+-- no more can be taken than there is
+pub take_within : (n : ℕ) (xs : List ℕ) → take (min n (length xs)) xs ≡ take n xs
+take_within n xs =
+    ⊎_elim (λ l. let e : min n (length xs) ≡ n = omega arith in ap (λ k. take k xs) e) (λ l. let e : min n (length xs) ≡ length xs = omega arith in ap (λ k. take k xs) e ∙ take_all (length xs) xs (omega arith) ∙ sym (take_all n xs l)) (cases_lt n (length xs))
+
+pub drop_within : (n : ℕ) (xs : List ℕ) → drop (min n (length xs)) xs ≡ drop n xs
+drop_within n xs =
+    ⊎_elim (λ l. let e : min n (length xs) ≡ n = omega arith in ap (λ k. drop k xs) e) (λ l. let e : min n (length xs) ≡ length xs = omega arith in ap (λ k. drop k xs) e ∙ drop_all (length xs) xs (omega arith) ∙ sym (drop_all n xs l)) (cases_lt n (length xs))
+
+pub part_within : (bytes : List ℕ) (from size start end : ℕ) → start ≡ min from (length bytes) → end ≡ start + min size (length bytes - start) → take (end - start) (drop start bytes) ≡ part_at size bytes from
+part_within bytes from size start end s e =
+    let n : end - start ≡ min size (length (drop start bytes)) = omega (arith, length-drop start bytes) in
+    ap (λ k. take k (drop start bytes)) n ∙ take_within size (drop start bytes) ∙ ap (λ (xs : List ℕ). take size xs) (ap (λ k. drop k bytes) s ∙ drop_within from bytes)

@@ -10,7 +10,7 @@ pub weighted_none : (block : List ℕ) → 0 ≡ weighted 0 block
 unfolding weighted
 weighted_none block = refl
 
-weighted_more : (n : ℕ) (block : List ℕ) → weighted (n + 1) block ≡ weighted n block + (n + 1) * byte_at block n
+pub weighted_more : (n : ℕ) (block : List ℕ) → weighted (n + 1) block ≡ weighted n block + (n + 1) * byte_at block n
 unfolding weighted
 weighted_more n block = upto_more n (λ p. (p + 1) * byte_at block p)
 
