@@ -1,7 +1,7 @@
 -- Bytes put one behind the other.
-use Rattle.std.proofs.Common.{◌≡◌, ℕ, ◌+◌, ◌≤◌, List, ◌++◌, length, take, drop, ap, ◌∙◌, append_assoc, add_assoc, arith}
+use Rattle.std.proofs.Common.{◌≡◌, ℕ, ◌+◌, ◌≤◌, List, [], ◌++◌, length, take, drop, sym, ap, ◌∙◌, append_assoc, add-zero, add_assoc, arith}
 use Rattle.std.proofs.lemmas.Grind.{common_steps}
-use Rattle.std.proofs.lemmas.List.{drop-drop, length-append, take_at}
+use Rattle.std.proofs.lemmas.List.{drop-drop, length-append, take-append-drop, take_at}
 use Rattle.text.specs.Placed.{placed, Placed}
 
 length_placed : (t : List ℕ) (at : ℕ) (bytes : List ℕ) → at + length bytes ≤ length t → length (placed t at bytes) ≡ length t
@@ -10,6 +10,11 @@ length_placed t at bytes h = grind (arith, common_steps)
 -- the text is as long as before
 pub length_after : {before : List ℕ} {at : ℕ} {bytes after : List ℕ} {end : ℕ} → Placed before at bytes after end → length after ≡ length before
 length_after {before} {at} {bytes} {after} {end} p = ap length p.text ∙ length_placed before at bytes (omega arith)
+
+-- nothing put
+pub placed_none : (t : List ℕ) (at : ℕ) → at ≤ length t → Placed t at [] t at
+placed_none t at h =
+    record { text = sym (ap (λ n. take at t ++ drop n t) (add-zero at) ∙ take-append-drop at t); end = sym (add-zero at); room = h }
 
 -- two writes, the second behind the first, are one
 placed_two : (t : List ℕ) (at : ℕ) (xs ys : List ℕ) → at + length xs + length ys ≤ length t → placed (placed t at xs) (at + length xs) ys ≡ placed t at (xs ++ ys)
