@@ -1,16 +1,24 @@
 -- The form of a block: its first bad record, and whether a sign's text is a new one.
-use Rattle.std.proofs.Common.{◌≡◌, ℕ, ◌+◌, ◌-◌, ◌<◌, ◌≤◌, Bool, true, false, not, List, length, get_or, Decides, MatchBool, refl, subst, arith}
+use Rattle.std.proofs.Common.{◌≡◌, ℕ, ◌+◌, ◌-◌, ◌<◌, ◌≤◌, Bool, true, false, not, List, Result, length, get_or, Decides, MatchBool, refl, subst, arith}
 use Rattle.std.specs.List.{range_with_len, AllWithin, HoldsAt}
 use Rattle.std.proofs.lemmas.Bool.{false≢true}
 use Rattle.std.proofs.lemmas.List.FromFn.{length-range_with_len, get_or-range_with_len}
 use Rattle.blocks.specs.Block.{block_of, record_count}
+use Rattle.blocks.specs.Faults.{BlockRead}
+use Rattle.blocks.specs.declared.block.Expected.{Expected}
+use Rattle.blocks.specs.declared.fault.BlockFault.{BlockFault}
 use Rattle.records.specs.Text.{SameText}
 use Rattle.layout.specs.Kinds.{kind_of}
 use Rattle.layout.specs.Places.{text_at}
-use Rattle.layout.specs.Form.{expects, expected_of, BlockForm, RecordForm, RecordsForm, FirstBad, Faulty, fault_at, NewText}
+use Rattle.layout.specs.Form.{expects, expected_of, FormRead, BlockForm, RecordForm, RecordsForm, FirstBad, Faulty, fault_at, NewText}
 use Rattle.layout.specs.declared.kind.Kind.{Kind}
 use Rattle.layout.specs.declared.kind.Kind.TheVariants.{Head, Parts, Signs, Acts}
 use Rattle.layout.proofs.BlockKinds.{StandsAmong, kind_told}
+
+-- what reading a block as the one that is expected gives
+pub form_read : (file block : List ℕ) (n m b : ℕ) (e : Expected) (r : Result ℕ BlockFault) → e ≡ expects n m b → block ≡ block_of file b → BlockRead e.kind b e.fewest e.utmost block r → FormRead file n m b r
+form_read file block n m b e r p q h =
+    subst (λ (x : List ℕ). BlockRead (expects n m b).kind b (expects n m b).fewest (expects n m b).utmost x r) q (subst (λ (x : Expected). BlockRead x.kind b x.fewest x.utmost block r) p h)
 
 -- the sign t has the text of the sign s
 abbrev pub Repeats : List ℕ → (n s t : ℕ) → Type 0
@@ -38,7 +46,7 @@ pub expects_few : (n m b : ℕ) → (expects n m b).utmost ≤ 16
 expects_few n m b = few (kind_of n m b) n m b
 
 -- the record at r is the first bad one; counted from 1 it is r + 1
-first_bad : (file : List ℕ) (n m b r : ℕ) → BlockForm file n m b → r < record_count (block_of file b) → RecordsForm file n m b r → (RecordForm file n m b r → ⊥) → FirstBad file n m b (r + 1)
+pub first_bad : (file : List ℕ) (n m b r : ℕ) → BlockForm file n m b → r < record_count (block_of file b) → RecordsForm file n m b r → (RecordForm file n m b r → ⊥) → FirstBad file n m b (r + 1)
 first_bad file n m b r form inside before bad =
     let back : r + 1 - 1 ≡ r = omega arith in
     record {
@@ -49,7 +57,7 @@ first_bad file n m b r form inside before bad =
       bad = λ good. bad (subst (RecordForm file n m b) back good);
     }
 
-faulty_at : (k : Kind) (file : List ℕ) (n m b r : ℕ) → StandsAmong k n m b → FirstBad file n m b r → Faulty file n m b (fault_at k b r)
+pub faulty_at : (k : Kind) (file : List ℕ) (n m b r : ℕ) → StandsAmong k n m b → FirstBad file n m b r → Faulty file n m b (fault_at k b r)
 faulty_at Head file n m b r h bad = (refl, omega arith, bad)
 faulty_at Parts file n m b r h bad = (refl, omega arith, bad)
 faulty_at Signs file n m b r h bad = (refl, h.1, bad)
