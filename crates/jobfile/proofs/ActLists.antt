@@ -58,15 +58,15 @@ module _ (file : List ℕ) where
   pub act_good : (b r : ℕ) → acts_from file ≤ b → Formed file → b < block_count file → r < record_count (block_of file b) → GoodAct (record_of (block_of file b) r)
   act_good b r from formed to h = (good_as Acts file (parts_in file) (signs_in file) b from (formed.blocks b (omega arith) to)).1 r h
 
-act_found : (bytes : List ℕ) → GoodAct bytes → (r : Option Act) → MatchOption r (GoodAct bytes → ⊥) (λ act. GoodAct bytes × (act ≡ act_from bytes)) → r ≡ Some (act_from bytes)
-act_found bytes good None h = absurd (h good)
-act_found bytes good (Some act) h = ap Some h.1
+pub act_found : (bytes same : List ℕ) → bytes ≡ same → GoodAct same → (r : Option Act) → MatchOption r (GoodAct bytes → ⊥) (λ act. GoodAct bytes × (act ≡ act_from bytes)) → r ≡ Some (act_from same)
+act_found bytes same e good None h = absurd (h (subst GoodAct (sym e) good))
+act_found bytes same e good (Some act) h = ap Some (h.1 ∙ ap act_from e)
 
 -- the act that was found at a record is the one that is asked for
 pub act_told : (file : List ℕ) (a r k : ℕ) (bytes : List ℕ) (found : Option Act) → Formed file → a < act_blocks file → r < length (acts_in file a) → k ≡ length (acts_before file a) + r → bytes ≡ record_of (block_of file (acts_from file + a)) r
     → MatchOption found (GoodAct bytes → ⊥) (λ act. GoodAct bytes × (act ≡ act_from bytes)) → found ≡ slice_get (acts_of file) k
 act_told file a r k bytes found formed h l at is told =
     let good = act_good file (acts_from file + a) r (omega arith) formed (omega arith) (omega (arith, acts_long file a)) in
-    act_found bytes (subst GoodAct (sym is) good) found told ∙ ap (λ (xs : List ℕ). Some (act_from xs)) is ∙ sym (act_here file a r h l) ∙ ap (slice_get (acts_of file)) (sym at)
+    act_found bytes _ is good found told ∙ sym (act_here file a r h l) ∙ ap (slice_get (acts_of file)) (sym at)
 
 pub ruleset act_lists = (length-map-range_with_len, acts_next, acts_all, slice_get_past)
