@@ -1,6 +1,6 @@
 -- A label that was asked for is the one at its place, or no bytes.
-use Rattle.std.proofs.Common.{◌≡◌, ℕ, List, [], get_or, Some, None, Option, Bor, refl, ap, ◌∙◌}
-use Rattle.std.proofs.lemmas.Option.{unwrap_or-slice_get}
+use Rattle.std.proofs.Common.{◌≡◌, ℕ, ◌<◌, List, [], length, get_or, Some, None, Option, Bor, refl, ap, ◌∙◌, arith}
+use Rattle.std.proofs.lemmas.Option.{unwrap_or-slice_get, slice_get-get_or}
 use Rattle.std.specs.List.{slice_get}
 use Rattle.std.specs.Option.{option_map, unwrap_or}
 
@@ -12,3 +12,6 @@ pub told_label : (labels : List (List ℕ)) (i : ℕ) (told : Option (Bor (List 
     → option_map (λ x. x.now) told ≡ slice_get labels i → label.now ≡ get_or labels i []
 told_label labels i told label none is empty there =
     ap (λ x. x.now) is ∙ behind told none ∙ ap (λ o. unwrap_or o none.now) there ∙ unwrap_or-slice_get labels i none.now ∙ ap (get_or labels i) empty
+
+pub told_none : (labels : List (List ℕ)) (i : ℕ) → i < length labels → ◌≡◌ {A = Option (List ℕ)} None (slice_get labels i) → ⊥
+told_none labels i h e = let n = slice_get-get_or labels i [] h in let z : ◌≡◌ {A = ℕ} 0 1 = cc in omega arith
