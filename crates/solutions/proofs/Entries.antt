@@ -1,5 +1,5 @@
 -- Lawful under entries, for any network: lawful, and each entry's line carries what the entry asks.
-use Rattle.std.proofs.Common.{◌≡◌, ℕ, zero, suc, ◌<◌, Bool, cond, eqb, List, [], ◌∷◌, length, get_or, sym, refl, ap, ◌∙◌, subst, arith}
+use Rattle.std.proofs.Common.{◌≡◌, ℕ, zero, suc, ◌<◌, ◌≤◌, Bool, cond, eqb, List, [], ◌∷◌, length, get_or, sym, refl, ap, ◌∙◌, subst, arith}
 use Rattle.std.proofs.lemmas.Bool.Decides.{nat_tests}
 use Rattle.network.specs.Net.{Net, size, line, tail, head}
 use Rattle.network.specs.Flow.{at, over, Lawful}
@@ -7,7 +7,7 @@ use Rattle.network.specs.Sum.{upto}
 use Rattle.flows.proofs.Sums.{upto_same}
 use Rattle.layers.specs.Entries.{Inside, bounds_of, bounded}
 use Rattle.layers.specs.Named.{no_entry}
-use Rattle.layers.specs.Present.{present_of, present, present_net}
+use Rattle.layers.specs.Present.{highest, lowest, amounts, present_of, present, present_net}
 use Rattle.layers.specs.declared.entry.Bound.{Bound}
 use Rattle.layers.specs.declared.entry.Bound.TheVariants.{AtLeast, AtMost}
 use Rattle.layers.specs.declared.entry.Bounds as entry
@@ -44,6 +44,16 @@ module _ (k x : ℕ) where
   inside_asked b [] h asked = h
   inside_asked b (e ∷ es) h asked =
       rw (first b e es) (inside_asked (present_of b (e ∷ []) k) es (one_allows b e.line e.bound e.amount h (asked 0 (omega arith))) (λ i l. asked (suc i) (omega arith)))
+
+-- what all entries on a line ask is what its present bounds ask
+pub above_highest : (l k x : ℕ) (es : List Entry) → l ≤ x → AskedOf es k x → highest l (amounts AtLeast k es) ≤ x
+above_highest l k x es low h = (inside_asked k x (record { least = l; most = x }) es (record { low = low; high = omega arith }) h).low
+
+pub below_lowest : (m k x : ℕ) (es : List Entry) → x ≤ m → AskedOf es k x → x ≤ lowest m (amounts AtMost k es)
+below_lowest m k x es high h = (inside_asked k x (record { least = x; most = m }) es (record { low = omega arith; high = high }) h).high
+
+pub asked_by_bounds : (l m k x : ℕ) (es : List Entry) → highest l (amounts AtLeast k es) ≤ x → x ≤ lowest m (amounts AtMost k es) → AskedOf es k x
+asked_by_bounds l m k x es low high = (asked_inside k x (record { least = l; most = m }) es (record { low = low; high = high })).1
 
 module _ (g : Net) (es : List Entry) where
   size_present : size (present_net g es) ≡ size g

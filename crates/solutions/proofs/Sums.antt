@@ -1,5 +1,6 @@
 -- Sums by place, cut in two and laid out in rows; sums of which a test picks one place, or all or none.
-use Rattle.std.proofs.Common.{◌≡◌, ℕ, zero, suc, ◌+◌, ◌-◌, ◌*◌, Bool, true, false, cond, ◌&&◌, eqb, ltb, leb, refl, add-zero, add-suc, suc-mul, zero-mul, arith}
+use Rattle.std.proofs.Common.{◌≡◌, ℕ, zero, suc, ◌+◌, ◌-◌, ◌*◌, ◌<◌, Bool, true, false, cond, ◌&&◌, eqb, ltb, leb, refl, add-zero, add-suc, suc-mul, zero-mul, arith}
+use Rattle.std.proofs.lemmas.Bool.{cond-false}
 use Rattle.std.proofs.lemmas.Bool.Decides.{nat_tests}
 use Rattle.network.specs.Sum.{upto}
 use Rattle.flows.proofs.Sums.{upto_zero}
@@ -12,6 +13,10 @@ upto_append a (suc b) f = rw add-suc (omega (arith, upto_append a b f))
 pub upto_rows : (n m : ℕ) (f : ℕ → ℕ) → upto (n * m) f ≡ upto n (λ p. upto m (λ s. f (p * m + s)))
 upto_rows zero m f = rw zero-mul
 upto_rows (suc n) m f = rw suc-mul (omega (arith, upto_append (n * m) m f, upto_rows n m f))
+
+-- the sum of the places that pass a test, where none does
+pub picks_none : (n : ℕ) (test : ℕ → Bool) (f : ℕ → ℕ) → ((i : ℕ) → i < n → test i ≡ false) → upto n (λ i. cond (test i) (f i) 0) ≡ 0
+picks_none n test f never = upto_zero n (λ i. cond (test i) (f i) 0) (λ i l. cond-false (test i) (f i) 0 (never i l))
 
 -- the sum of the places that are v when counted from c
 pub picks_one : (n : ℕ) (f : ℕ → ℕ) (c v : ℕ) → upto n (λ i. cond (eqb (c + i) v) (f i) 0) ≡ cond (leb c v && ltb v (c + n)) (f (v - c)) 0

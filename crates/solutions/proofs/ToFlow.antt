@@ -55,6 +55,9 @@ pub record Holds (l : Line) (x : ℕ) : Type 0 where
   pub low : least l ≤ x
   pub high : x ≤ most l
 
+pub holds_of : (l m : Line) (x y : ℕ) → l ≡ m → x ≡ y → Holds m y → Holds l x
+holds_of l m x y e d h = rw (e, d) h
+
 module _ (job : Job) (lo hi : ℕ) (held : Held job) (bytes : List ℕ) (lawful : LawfulNumbering job lo hi bytes) where
   -- a count of bytes, over the parts
   counted : (test : ℕ → Bool) → count_upto (length bytes) test ≡ upto (part_count job) (λ p. one (test p))
