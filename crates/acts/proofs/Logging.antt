@@ -33,7 +33,7 @@ logged g take_back before after r h s =
 logged g nothing before after r h s = record { answer = h.0; left = h.1; stands = subst (Standing g) (sym h.1) s }
 
 -- on a layer
-acts_on : {N : Type 0} (meaning : N → Net) (ask : Ask) (before after : Entries N) (r : Result (Unit {0}) ActRefusal) → after.below ≡ before.below
+pub acts_on : {N : Type 0} (meaning : N → Net) (ask : Ask) (before after : Entries N) (r : Result (Unit {0}) ActRefusal) → after.below ≡ before.below
     → Asks (meaning before.below) ask (entries_of before.column) (entries_of after.column) r → ActsOn meaning ask before after r
 acts_on meaning ask before after r below asks =
     record {
