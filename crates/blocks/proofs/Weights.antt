@@ -31,10 +31,14 @@ weighted_zeros (suc k) n block h =
     let more = weighted_more (n + k) block in
     ap (λ (m : ℕ). weighted m block) e ∙ omega arith
 
--- past the end of a block there are zeros
-pub check_of_is : (n : ℕ) (front block : List ℕ) → front ≡ part_at 510 block 0 → n ≡ length front → check_of block ≡ weighted n block % 65521
+pub check_of_is : (block : List ℕ) → check_of block ≡ weighted 510 block % 65521
 unfolding check_of
-check_of_is n front block is end =
+check_of_is block = refl
+
+-- past the end of a block there are zeros
+pub check_of_front : (n : ℕ) (front block : List ℕ) → front ≡ part_at 510 block 0 → n ≡ length front → check_of block ≡ weighted n block % 65521
+unfolding check_of
+check_of_front n front block is end =
     let long : n ≡ min 510 (length block) = end ∙ ap length is ∙ length-take 510 block in
     let all : n + (510 - n) ≡ 510 = omega arith in
     let whole = weighted_zeros (510 - n) n block (λ i l h. get_or_past block i 0 (omega arith)) in
@@ -45,4 +49,4 @@ pub term_small : (p b : ℕ) → p < 510 → b < 256 → (p + 1) * b ≤ 130050
 term_small p b h k = mul-le (p + 1) b 510 255 (omega arith) (omega arith)
 
 -- what the bounds of the sum and its end stand on
-pub ruleset weighing = (term_small, check_of_is)
+pub ruleset weighing = (term_small, check_of_front)
