@@ -1,5 +1,5 @@
 -- The form of a block: its first bad record, and whether a sign's text is a new one.
-use Rattle.std.proofs.Common.{◌≡◌, ℕ, ◌+◌, ◌-◌, ◌<◌, ◌≤◌, Bool, true, false, not, List, Result, length, get_or, Decides, MatchBool, refl, subst, arith}
+use Rattle.std.proofs.Common.{◌≡◌, ℕ, ◌+◌, ◌-◌, ◌<◌, ◌≤◌, Bool, true, false, not, List, Result, length, get_or, Decides, MatchBool, sym, refl, subst, arith}
 use Rattle.std.specs.List.{range_with_len, AllWithin, HoldsAt}
 use Rattle.std.proofs.lemmas.Bool.{false≢true}
 use Rattle.std.proofs.lemmas.List.FromFn.{length-range_with_len, get_or-range_with_len}
@@ -7,10 +7,11 @@ use Rattle.blocks.specs.Block.{block_of, record_count}
 use Rattle.blocks.specs.Faults.{BlockRead}
 use Rattle.blocks.specs.declared.block.Expected.{Expected}
 use Rattle.blocks.specs.declared.fault.BlockFault.{BlockFault}
+use Rattle.records.specs.declared.fault.RecordFault.{RecordFault}
 use Rattle.records.specs.Text.{SameText}
 use Rattle.layout.specs.Kinds.{kind_of}
 use Rattle.layout.specs.Places.{text_at}
-use Rattle.layout.specs.Form.{expects, expected_of, FormRead, BlockForm, RecordForm, RecordsForm, FirstBad, Faulty, fault_at, NewText}
+use Rattle.layout.specs.Form.{expects, expected_of, FormRead, BlockForm, RecordForm, RecordsForm, FirstBad, Faulty, fault_at, fault_of, NewText}
 use Rattle.layout.specs.declared.kind.Kind.{Kind}
 use Rattle.layout.specs.declared.kind.Kind.TheVariants.{Head, Parts, Signs, Acts}
 use Rattle.layout.proofs.BlockKinds.{StandsAmong, kind_told}
@@ -57,12 +58,15 @@ first_bad file n m b r form inside before bad =
       bad = λ good. bad (subst (RecordForm file n m b) back good);
     }
 
-pub faulty_at : (k : Kind) (file : List ℕ) (n m b r : ℕ) → StandsAmong k n m b → FirstBad file n m b r → Faulty file n m b (fault_at k b r)
+faulty_at : (k : Kind) (file : List ℕ) (n m b r : ℕ) → StandsAmong k n m b → FirstBad file n m b r → Faulty file n m b (fault_at k b r)
 faulty_at Head file n m b r h bad = (refl, omega arith, bad)
 faulty_at Parts file n m b r h bad = (refl, omega arith, bad)
 faulty_at Signs file n m b r h bad = (refl, h.1, bad)
 faulty_at Acts file n m b r h bad = (refl, h, bad)
 
+pub faulty : (file : List ℕ) (n m b r : ℕ) (e : RecordFault) → FirstBad file n m b r → e ≡ fault_of n m b r → Faulty file n m b e
+faulty file n m b r e bad is = subst (Faulty file n m b) (sym is) (faulty_at (kind_of n m b) file n m b r (kind_told n m b) bad)
+
 -- its fault is the first of the block
-pub faulty : (file : List ℕ) (n m b r : ℕ) → BlockForm file n m b → r < record_count (block_of file b) → RecordsForm file n m b r → (RecordForm file n m b r → ⊥) → Faulty file n m b (fault_at (kind_of n m b) b (r + 1))
-faulty file n m b r form inside before bad = faulty_at (kind_of n m b) file n m b (r + 1) (kind_told n m b) (first_bad file n m b r form inside before bad)
+pub first_faulty : (file : List ℕ) (n m b r : ℕ) → BlockForm file n m b → r < record_count (block_of file b) → RecordsForm file n m b r → (RecordForm file n m b r → ⊥) → Faulty file n m b (fault_at (kind_of n m b) b (r + 1))
+first_faulty file n m b r form inside before bad = faulty_at (kind_of n m b) file n m b (r + 1) (kind_told n m b) (first_bad file n m b r form inside before bad)
