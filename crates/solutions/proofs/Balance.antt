@@ -8,7 +8,7 @@ use Rattle.network.proofs.Counting.{upto_more}
 use Rattle.flows.proofs.Sums.{upto_same}
 use Rattle.series.specs.Job.{Job, part_count, sign_count, signs_from, line_count, standing_line, pair_line, count_line, total_line, whole_net, part_node, sign_node, sink_node}
 use Rattle.series.specs.Key.{pair_place}
-use Rattle.solutions.proofs.Sums.{upto_append, upto_rows, picks_one, picks_all}
+use Rattle.solutions.proofs.Sums.{upto_append, upto_rows, picks_place, picks_flat}
 use Rattle.solutions.proofs.Lines.{size_whole, line_part, line_pair, line_sign, line_last}
 
 -- What leaves the source comes back over the last line; what enters a part leaves it to its signs; what enters a sign is its
@@ -84,13 +84,13 @@ module _ (job : Job) (lo hi : ℕ) (f : ℕ → ℕ) where
   -- the pairs into a node, and out of one
   pairs_into : (v : ℕ) → pairs_sum (into v) ≡ cond (leb (1 + part_count job) v && ltb v (sink_node job)) (column (v - (1 + part_count job))) 0
   pairs_into v =
-      upto_same (part_count job) _ _ (λ p h. picks_one (sign_count job) (λ s. f (pair_place job p s)) (1 + part_count job) v)
-      ∙ picks_all (part_count job) (λ p. f (pair_place job p (v - (1 + part_count job)))) _
+      upto_same (part_count job) _ _ (λ p h. picks_place (sign_count job) (λ s. f (pair_place job p s)) (1 + part_count job) v)
+      ∙ picks_flat (part_count job) (λ p. f (pair_place job p (v - (1 + part_count job)))) _
 
   pairs_from_node : (v : ℕ) → pairs_sum (from v) ≡ cond (leb 1 v && ltb v (1 + part_count job)) (row (v - 1)) 0
   pairs_from_node v =
-      upto_same (part_count job) _ _ (λ p h. picks_all (sign_count job) (λ s. f (pair_place job p s)) (eqb (part_node p) v))
-      ∙ picks_one (part_count job) row 1 v
+      upto_same (part_count job) _ _ (λ p h. picks_flat (sign_count job) (λ s. f (pair_place job p s)) (eqb (part_node p) v))
+      ∙ picks_place (part_count job) row 1 v
 
   abbrev g : Net
   g = whole_net job lo hi
@@ -101,9 +101,9 @@ module _ (job : Job) (lo hi : ℕ) (f : ℕ → ℕ) where
       omega (
         arith,
         split (into v),
-        picks_one (part_count job) f 1 v,
+        picks_place (part_count job) f 1 v,
         pairs_into v,
-        picks_all (sign_count job) (λ s. f (signs_from job + s)) (eqb (sink_node job) v),
+        picks_flat (sign_count job) (λ s. f (signs_from job + s)) (eqb (sink_node job) v),
       )
 
   leaving : (v : ℕ) → over g (from v) f ≡ (cond (eqb 0 v) (upto (part_count job) f) 0 + cond (leb 1 v && ltb v (1 + part_count job)) (row (v - 1)) 0) + (cond (leb (1 + part_count job) v && ltb v (sink_node job)) (f (signs_from job + (v - (1 + part_count job)))) 0 + cond (eqb (sink_node job) v) (f (line_count job)) 0)
@@ -111,9 +111,9 @@ module _ (job : Job) (lo hi : ℕ) (f : ℕ → ℕ) where
       omega (
         arith,
         split (from v),
-        picks_all (part_count job) f (eqb 0 v),
+        picks_flat (part_count job) f (eqb 0 v),
         pairs_from_node v,
-        picks_one (sign_count job) (λ s. f (signs_from job + s)) (1 + part_count job) v,
+        picks_place (sign_count job) (λ s. f (signs_from job + s)) (1 + part_count job) v,
       )
 
   -- kept at every node, in the words of the job
