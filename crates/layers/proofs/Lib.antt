@@ -1,3 +1,4 @@
+pub mod Marks
 pub mod Determined
 pub mod Present
 pub mod Asked
