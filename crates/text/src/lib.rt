@@ -21,9 +21,7 @@ pub fn put(text: &mut Places<'_, u8>, bytes: &[u8])
     requires { length bytes.now ≤ room text.old }
     ensures { Puts text.old bytes.now text.new }
 {
-    for byte in bytes {
-        put_byte(text, *byte);
-    }
+    text.extend_from_slice(bytes).unwrap();
 }
 
 // Puts a number in decimal digits, with no zero in front.
