@@ -1,9 +1,9 @@
 // A list over places that the caller lends. It holds as many elements as there are places, and never moves them.
-ghost use Rattle.std.specs.Prelude.{◌≡◌, ◌+◌, ◌-◌, ◌<◌, ◌≤◌, true, length, is_ok, if◌then◌else◌, nat_lt, slice_set};
+ghost use Rattle.std.specs.Prelude.{◌≡◌, ◌+◌, ◌-◌, ◌<◌, ◌≤◌, true, length, is_ok, if◌then◌else◌, nat_lt, nat_le, slice_set};
 ghost use Rattle.std.specs.List.{slice_get};
-ghost use Rattle.buffers.specs.Places.{elements, last};
+ghost use Rattle.buffers.specs.Places.{elements, last, extended};
 
-// Refused: every place is in use.
+// Refused: there are not enough places.
 #[derive(Clone, Copy, PartialEq, Eq, Debug)]
 pub struct Full;
 
@@ -84,6 +84,22 @@ impl<'a, T: Copy> Places<'a, T> {
         Ok(())
     }
 
+    // Adds the elements of a slice at the end, all at once; refused where they have no room, and then nothing changes.
+    pub fn extend_from_slice(&mut self, xs: &[T]) -> Result<(), Full>
+        ensures lent { self.new.cells.ghost_name ≡ self.old.cells.ghost_name }
+        ensures room { is_ok result ≡ nat_le (self.old.len + length xs.now) (length self.old.cells.now) }
+        ensures count { self.new.len ≡ (if is_ok result then self.old.len + length xs.now else self.old.len) }
+        ensures written { self.new.cells.now ≡ (if is_ok result then extended self.old.cells.now self.old.len xs.now else self.old.cells.now) }
+    {
+        if xs.len() > self.cells.len() - self.len {
+            return Err(Full);
+        }
+        let end = self.len + xs.len();
+        self.cells[self.len..end].copy_from_slice(xs);
+        self.len = end;
+        Ok(())
+    }
+
     // Takes the last element off the list, and leaves its place as it is.
     pub fn pop(&mut self) -> Option<T>
         ensures lent { self.new.cells.ghost_name ≡ self.old.cells.ghost_name }
@@ -154,5 +170,14 @@ mod tests {
         assert_eq!(rt; list.pop(), None);
         assert_eq!(rt; list.replace_top((8, 8)), None);
         assert_eq!(rt; list.len(), 0);
+    }
+
+    #[test]
+    fn a_slice_is_added_whole_or_not_at_all(rt: HostRuntime) {
+        let mut cells = [1, 2, 3, 4];
+        let mut list = Places::holding(&mut cells, 1);
+        assert_eq!(rt; list.extend_from_slice(&[7, 8]), Ok(()));
+        assert_eq!(rt; list.extend_from_slice(&[9, 9]), Err(Full));
+        assert_eq!(rt; list.elements(), [1, 7, 8].as_slice());
     }
 }

@@ -9,6 +9,7 @@ ghost use Rattle.text.specs.Placed.{Placed};
 
 use crate::refusal::ListingRefusal;
 use contents::labels::Labels;
+use index::step::Step;
 use network::legend::Legend;
 use rendering::shown::Shown;
 use sift::memory::Memory;
@@ -69,4 +70,29 @@ pub fn listing<L: Legend, B: Labels>(
     }
     sift(legend, memory)?;
     Ok(put_shown(legend, labels, memory, text))
+}
+
+// The same in six slices that come one by one, for who lends a Vec or a part of a slice: the reason is told at `sift_slices`.
+pub fn listing_slices<L: Legend, B: Labels>(
+    legend: &L,
+    labels: &B,
+    text: &mut [u8],
+    flow: &mut [u32],
+    verdicts: &mut [u8],
+    bottleneck: &mut [u8],
+    marks: &mut [u8],
+    nodes: &mut [u16],
+    steps: &mut [Step],
+) -> Result<usize, ListingRefusal>
+    ensures { ListsOn (L.Network.meaning legend.now) (L.Legend.key legend.now) (B.Labels.labelled labels.now) text.old text.new (record { flow = flow.old; verdicts = verdicts.old; bottleneck = bottleneck.old; marks = marks.old; nodes = nodes.old; steps = steps.old }) (record { flow = flow.exit.now; verdicts = verdicts.new; bottleneck = bottleneck.new; marks = marks.new; nodes = nodes.new; steps = steps.new }) result }
+{
+    let mut memory = Memory {
+        flow,
+        verdicts,
+        bottleneck,
+        marks,
+        nodes,
+        steps,
+    };
+    listing(legend, labels, text, &mut memory)
 }

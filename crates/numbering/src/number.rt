@@ -6,6 +6,7 @@ ghost use Rattle.solutions.specs.Carried.{over_line, byte_of, numbering_of};
 ghost use Rattle.numbering.specs.Numbered.{Numbers};
 ghost use Rattle.numbering.specs.JobNumbered.{NumbersJobs};
 
+use index::step::Step;
 use network::legend::Legend;
 use series::judge::UNSIGNED;
 use sift::memory::Memory;
@@ -57,4 +58,29 @@ pub fn number<L: Legend>(
     sift(legend, memory)?;
     write_signs(legend, memory, &mut numbering[..parts]);
     Ok(())
+}
+
+// The same in six slices that come one by one, for who lends a Vec or a part of a slice: the reason is told at `sift_slices`.
+pub fn number_slices<L: Legend>(
+    legend: &L,
+    numbering: &mut [u8],
+    flow: &mut [u32],
+    verdicts: &mut [u8],
+    bottleneck: &mut [u8],
+    marks: &mut [u8],
+    nodes: &mut [u16],
+    steps: &mut [Step],
+) -> Result<(), SiftRefusal>
+    ensures numbers { Numbers (L.Network.meaning legend.now) (L.Legend.key legend.now) (record { flow = flow.old; verdicts = verdicts.old; bottleneck = bottleneck.old; marks = marks.old; nodes = nodes.old; steps = steps.old }) (record { flow = flow.new; verdicts = verdicts.new; bottleneck = bottleneck.new; marks = marks.new; nodes = nodes.new; steps = steps.new }) numbering.old numbering.new result }
+    ensures jobs { NumbersJobs (L.Network.meaning legend.now) (L.Legend.key legend.now) (record { flow = flow.new; verdicts = verdicts.new; bottleneck = bottleneck.new; marks = marks.new; nodes = nodes.new; steps = steps.new }) numbering.new result }
+{
+    let mut memory = Memory {
+        flow,
+        verdicts,
+        bottleneck,
+        marks,
+        nodes,
+        steps,
+    };
+    number(legend, numbering, &mut memory)
 }
