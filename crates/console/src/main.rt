@@ -2,16 +2,14 @@
 // library; the program moves bytes.
 #![tactic(auto)]
 
+use jobfile::input::{MOST, fill};
 use jobrun::run::run_file;
 use std::io;
-use std::io::{Read, Write};
-
-// One byte more than the longest file: so much of a longer input decides that it is refused.
-const MOST: u64 = 12801;
+use std::io::Write;
 
 fn main(rt: HostRuntime) -> io::Result<()> {
-    let mut file = Vec::new(rt.alloc());
-    rt.stdin().take(MOST).read_to_end(&mut file)?;
-    let printed = run_file(rt.alloc(), &file)?;
+    let mut file = [0u8; MOST];
+    let length = fill(&mut rt.stdin(), &mut file)?;
+    let printed = run_file(rt.alloc(), &file[..length])?;
     rt.stdout().write_all(&printed)
 }

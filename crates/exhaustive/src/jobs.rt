@@ -6,7 +6,6 @@ use crate::random::Random;
 use crate::sifted::Sifted;
 use crate::small_job::Job;
 use crate::tally::Tally;
-use anyhow::anyhow;
 use itertools::Itertools;
 use job::closed_job;
 use layers::closing::Closing;
@@ -16,7 +15,7 @@ use network::line_record::LineRecord;
 use series::one_series::OneSeries;
 use series::records::{Part, PartRecord, SignRecord, Standing};
 use std::alloc::{AllocError, Global};
-use std::iter;
+use std::{io, iter};
 
 // The flows of all lawful numberings that keep the bounds of the lines, which entries may have made narrower.
 fn all_numberings(
@@ -49,16 +48,13 @@ fn record_of(part: &Part) -> PartRecord {
     }
 }
 
-fn loaded(alloc: Global, job: &Job) -> anyhow::Result<Closing<OneSeries>> {
+fn loaded(alloc: Global, job: &Job) -> io::Result<Closing<OneSeries>> {
     let parts: Vec<PartRecord> = job.parts.iter().map(record_of).collect(alloc)?;
     let mut series = OneSeries::new();
     series
         .load(parts.len(), job.signs.len(), &parts, &job.signs)
-        .map_err(|refusal| anyhow!("a job is refused with {}", refusal.number()))?;
-    closed_job(series, job.lo, job.hi).map_err(|refusal| anyhow!(
-        "a total is refused with {}",
-        refusal.number()
-    ))
+        .map_err(|_| io::Error::other("a job is refused"))?;
+    closed_job(series, job.lo, job.hi).map_err(|_| io::Error::other("a total is refused"))
 }
 
 // Lays an entry, and narrows its line by it if it was accepted.
@@ -92,7 +88,7 @@ pub fn compare_job(
     entries: u32,
     random: &mut Random,
     tally: &mut Tally,
-) -> anyhow::Result<usize> {
+) -> io::Result<usize> {
     let mut layer = Entries::new(loaded(alloc, job)?);
     let mut lines = job.lines(alloc)?;
     for _ in 0..entries {
@@ -145,7 +141,7 @@ fn generate(alloc: Global, random: &mut Random) -> Result<Job, AllocError> {
     })
 }
 
-pub fn compare_jobs(alloc: Global, cases: u32, entries: u32) -> anyhow::Result<Tally> {
+pub fn compare_jobs(alloc: Global, cases: u32, entries: u32) -> io::Result<Tally> {
     let mut random = Random::new(1);
     let mut tally = Tally::default();
     for _ in 0..cases {

@@ -17,19 +17,19 @@ use crate::networks::compare_networks;
 use crate::random::Random;
 use crate::tally::Tally;
 use std::alloc::Global;
+use std::io;
 
-fn compare_named(rt: &impl Print, alloc: Global) -> anyhow::Result<()> {
+fn compare_named(rt: &impl Print, alloc: Global) -> io::Result<()> {
     let mut random = Random::new(0);
     let mut tally = Tally::default();
     for (name, job) in named(alloc)? {
         let lawful = compare_job(alloc, &job, 0, &mut random, &mut tally)?;
         println!(rt; "{name}: {lawful} lawful")?;
     }
-    println!(rt; "jobs by name: {tally}")?;
-    Ok(())
+    println!(rt; "jobs by name: {tally}")
 }
 
-fn main(rt: HostRuntime) -> anyhow::Result<()> {
+fn main(rt: HostRuntime) -> io::Result<()> {
     let alloc = rt.alloc();
     compare_named(&rt, alloc)?;
     println!(rt; "generated jobs: {}", compare_jobs(alloc, 2000, 0)?)?;
@@ -37,6 +37,5 @@ fn main(rt: HostRuntime) -> anyhow::Result<()> {
         "generated jobs under entries: {}",
         compare_jobs(alloc, 2000, 3)?
     )?;
-    println!(rt; "listed networks: {}", compare_networks(alloc, 3000)?)?;
-    Ok(())
+    println!(rt; "listed networks: {}", compare_networks(alloc, 3000)?)
 }

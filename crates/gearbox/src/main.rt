@@ -16,7 +16,7 @@ use sample_jobs::jobs::GEARBOX;
 use session::run::run;
 
 fn main(rt: HostRuntime) -> anyhow::Result<()> {
-    let closed = GEARBOX.closed(rt.alloc())?;
+    let closed = GEARBOX.closed()?;
     let lines = listed_lines();
     let mut listed = Listed::new();
     listed.load(NODES, LINES, &lines).map_err(|refusal| anyhow!(

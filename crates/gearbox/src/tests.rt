@@ -8,7 +8,7 @@ use std::test::Fail;
 // The last place that is asked for lies past the end of both.
 #[test]
 fn both_networks_mean_the_same(rt: HostRuntime) -> Result<(), Fail> {
-    let closed = GEARBOX.closed(rt.alloc())?;
+    let closed = GEARBOX.closed()?;
     let lines = listed_lines();
     let mut listed = Listed::new();
     listed.load(NODES, LINES, &lines)?;

@@ -6,6 +6,7 @@ mod check;
 pub mod fault;
 pub mod file;
 pub mod head;
+pub mod input;
 pub mod job_network;
 mod job_records;
 pub mod labels;

@@ -55,15 +55,17 @@ fn judge(rt: &impl Print, job: &OneSeries, hi: u16, numbering: &[u8]) -> io::Res
     )
 }
 
-fn main(rt: HostRuntime) -> anyhow::Result<()> {
+fn main(rt: HostRuntime) -> io::Result<()> {
     print!(rt; "load the gearbox job, parts shaft and gear, signs 10 and 14: ")?;
-    let job = GEARBOX.load(rt.alloc())?;
+    let job = match GEARBOX.load() {
+        Ok(job) => job,
+        Err(refusal) => return println!(rt; "refused, {}", refusal.number()),
+    };
     println!(rt; "loaded")?;
     judge(&rt, &job, 64, &[0, 1])?;
     judge(&rt, &job, 64, &[0, 0])?;
     judge(&rt, &job, 64, &[0, UNSIGNED])?;
     judge(&rt, &job, 64, &[2, 1])?;
     judge(&rt, &job, 1, &[1, 0])?;
-    judge(&rt, &job, 64, &[0])?;
-    Ok(())
+    judge(&rt, &job, 64, &[0])
 }

@@ -25,6 +25,6 @@ fn number_pump(rt: &impl Print, mut work: Work<'_>) -> anyhow::Result<()> {
 }
 
 fn main(rt: HostRuntime) -> anyhow::Result<()> {
-    number_gearbox(&rt, Work::open(rt.alloc(), &GEARBOX)?)?;
-    number_pump(&rt, Work::open(rt.alloc(), &PUMP)?)
+    number_gearbox(&rt, Work::open(&GEARBOX)?)?;
+    number_pump(&rt, Work::open(&PUMP)?)
 }

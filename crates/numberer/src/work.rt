@@ -12,7 +12,6 @@ use numbering::number::number;
 use sample_jobs::sample::{Sample, name_at};
 use series::one_series::OneSeries;
 use sift::memory::Memory;
-use std::alloc::Global;
 
 #[derive(Drop)]
 pub struct Work<'a> {
@@ -22,11 +21,15 @@ pub struct Work<'a> {
 }
 
 impl<'a> Work<'a> {
-    pub fn open(alloc: Global, sample: &'a Sample) -> anyhow::Result<Work<'a>> {
+    pub fn open(sample: &'a Sample) -> anyhow::Result<Work<'a>> {
+        let series = sample.load().map_err(|refusal| anyhow!(
+            "the job is refused with {}",
+            refusal.number()
+        ))?;
         Ok(Work {
             sample,
-            series: sample.load(alloc)?,
-            job: Entries::new(sample.closed(alloc)?),
+            series,
+            job: Entries::new(sample.closed()?),
         })
     }
 

@@ -7,14 +7,11 @@ use contents::act::Act;
 use contents::labels::Labels;
 use jobfile::fault::JobFault;
 use jobfile::file::JobFile;
+use jobfile::input::{MOST, fill};
 use jobfile::read::read;
 use layout::places::signs_start;
 use series::records::{PartRecord, SignRecord};
-use std::io::Read;
 use std::{fmt, io, str};
-
-// One byte more than the longest file: a longer input is refused by its length.
-const MOST: u64 = 12801;
 
 // Where a record stands: its block, and its place among the block's records.
 #[derive(Drop)]
@@ -133,7 +130,7 @@ fn show(rt: &impl Print, file: &[u8]) -> io::Result<()> {
 }
 
 fn main(rt: HostRuntime) -> io::Result<()> {
-    let mut file = Vec::new(rt.alloc());
-    rt.stdin().take(MOST).read_to_end(&mut file)?;
-    show(&rt, &file)
+    let mut file = [0u8; MOST];
+    let length = fill(&mut rt.stdin(), &mut file)?;
+    show(&rt, &file[..length])
 }
