@@ -1,7 +1,7 @@
 // A fixed pseudo-random sequence.
 ghost use Rattle.std.specs.Prelude.{◌<◌, max};
 
-#[derive(Drop)]
+#[derive(Clone, Copy)]
 pub struct Random {
     state: u64,
 }

@@ -14,7 +14,9 @@ use index::step::Step;
 use network::Network;
 use network::line_record::LineRecord;
 
-// Sifts in working memory for at most LINES lines, whose steps are STEPS.
+// Sifts in working memory for at most LINES lines, whose steps are STEPS. Never inlined, so that a small network does not pay for the
+// memory of a large one.
+#[inline(never)]
 fn sift_within<N: Network, const LINES: usize, const STEPS: usize>(
     network: &N,
     memory: &mut Memory<'_>,

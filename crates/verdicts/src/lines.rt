@@ -1,23 +1,26 @@
 // The verdict on each line: free if a lawful flow can carry more or less over it, and else fixed.
-ghost use Rattle.std.specs.Prelude.{◌≡◌, ◌<◌, length, replicate};
+ghost use Rattle.std.specs.Prelude.{◌≡◌, ◌<◌, true, length, replicate};
 ghost use Rattle.network.specs.Flow.{Lawful};
 ghost use Rattle.index.specs.Graph.{net};
 ghost use Rattle.verdicts.specs.Number.{number};
+ghost use Rattle.verdicts.specs.Search.{has_room};
 ghost use Rattle.verdicts.specs.Verdicts.{CanChange, Verdicts};
 ghost use Rattle.verdicts.specs.Verdicts.{Verdict as Told};
 
 use crate::lent::Lent;
-use crate::search::Search;
+use crate::search::{Search, room_for_one};
 use crate::verdict::Verdict;
 use index::graph::Graph;
 use index::step::Step;
 
-// Whether a lawful flow can carry one more over the step: there is room, and one more comes back from where the step ends to where
-// it begins without its line.
-fn can_change(graph: &Graph<'_>, flow: &[u32], step: Step, lent: &mut Lent<'_>) -> bool
+// Whether a lawful flow can carry one more over a step with room: one more comes back from where the step ends to where it begins
+// without its line. Never inlined, so that a line without room costs no more than a look at it.
+#[inline(never)]
+fn comes_back(graph: &Graph<'_>, flow: &[u32], step: Step, lent: &mut Lent<'_>) -> bool
     requires nodes { length lent.old.marks.now ≡ (net graph.now).nodes }
     requires lawful { Lawful (net graph.now) flow.now }
     requires line { step.line < length graph.now.lines.now }
+    requires room { has_room (net graph.now) flow.now step ≡ true }
     ensures lent { lent.new.marks.ghost_name ≡ lent.old.marks.ghost_name }
     ensures nodes { length lent.new.marks.now ≡ length lent.old.marks.now }
     ensures changes { CanChange (net graph.now) flow.now step result }
@@ -30,7 +33,19 @@ fn can_change(graph: &Graph<'_>, flow: &[u32], step: Step, lent: &mut Lent<'_>) 
         avoid: step.line as usize,
         sought: origin,
     };
-    search.has_room(step) && search.reaches(target, lent.marks, lent.queue)
+    search.reaches(target, lent.marks, lent.queue)
+}
+
+// Whether a lawful flow can carry one more over the step: there is room, and one more comes back.
+fn can_change(graph: &Graph<'_>, flow: &[u32], step: Step, lent: &mut Lent<'_>) -> bool
+    requires nodes { length lent.old.marks.now ≡ (net graph.now).nodes }
+    requires lawful { Lawful (net graph.now) flow.now }
+    requires line { step.line < length graph.now.lines.now }
+    ensures lent { lent.new.marks.ghost_name ≡ lent.old.marks.ghost_name }
+    ensures nodes { length lent.new.marks.now ≡ length lent.old.marks.now }
+    ensures changes { CanChange (net graph.now) flow.now step result }
+{
+    room_for_one(graph, flow, step) && comes_back(graph, flow, step, lent)
 }
 
 // The verdict on one line: whether it is fixed at the amount that it carries, or free from it.

@@ -18,6 +18,22 @@ pub struct Search<'a> {
     ghost amounts: { length flow.now ≡ length graph.now.lines.now },
 }
 
+// Whether one more can go over the step: the line is below its most, or against it above its least.
+pub(crate) fn room_for_one(graph: &Graph<'_>, flow: &[u32], step: Step) -> bool
+    requires line { step.line < length graph.now.lines.now }
+    requires amounts { length flow.now ≡ length graph.now.lines.now }
+    ensures { result ≡ has_room (net graph.now) flow.now step }
+{
+    let place = step.line as usize;
+    let line = graph.lines()[place];
+    let (less, more) = if step.direction == 0 {
+        (flow[place], line.most as u32)
+    } else {
+        (line.least as u32, flow[place])
+    };
+    less < more
+}
+
 // Marks and lists a node, unless it is marked already. The marks and the list stay two parameters: a struct of both gets no proof
 // that its lender has blank marks back.
 fn find_node(node: usize, marks: &mut Marks<'_>, list: &mut Places<'_, u16>)
@@ -34,18 +50,12 @@ fn find_node(node: usize, marks: &mut Marks<'_>, list: &mut Places<'_, u16>)
 }
 
 impl Search<'_> {
-    // Whether one more can go over the step: the line is below its most, or against it above its least.
+    // Whether one more can go over the step.
     pub fn has_room(&self, step: Step) -> bool
         requires { step.line < length self.now.graph.now.lines.now }
         ensures { result ≡ has_room (net self.now.graph.now) self.now.flow.now step }
     {
-        let place = step.line as usize;
-        let line = self.graph.lines()[place];
-        if step.direction == 0 {
-            self.flow[place] < line.most as u32
-        } else {
-            self.flow[place] > line.least as u32
-        }
+        room_for_one(self.graph, self.flow, step)
     }
 
     // Whether the search may take this step: not over the line to avoid, and with room for one more.
@@ -67,8 +77,8 @@ impl Search<'_> {
         ensures grows { Grows (net self.now.graph.now) self.now.flow.now self.now.avoid (found marks.old list.old) (found marks.new list.new) }
         ensures visits { Visits (net self.now.graph.now) self.now.flow.now self.now.avoid (found marks.new list.new) node self.now.sought result }
     {
-        for step in self.graph.row(node) {
-            if self.is_passable(*step) {
+        for &step in self.graph.row(node) {
+            if self.is_passable(step) {
                 let next = step.target(self.graph.lines());
                 find_node(next, marks, list);
                 if next == self.sought {
